@@ -1,15 +1,13 @@
-//! A node of many neighbours, as a charging server has them: each read of a stream goes to the node's session, each
-//! request that is handed up is answered, and clocks run, connections are lost, cross and come again.
+//! A node of many neighbours, as a charging server has them: each read of a stream goes to the node, each request that
+//! is handed up is answered, and clocks run, connections are lost, cross and come again.
 use crate::chance::Chance;
 use crate::digest::Digest;
 use crate::draft::put;
 use crate::messages::{Samples, capabilities, letters_of};
 use anyhow::Result;
 use dm_dict::Ip;
-use dm_node_session::{
-    Action, Config, Conn, EventFault, NodeActions, NodeOrder, NodeSession, PeerFault,
-};
-use dm_peer::{Node, State};
+use dm_node::{Action, Answer, Config, Conn, EventFault, Node, NodeOrder, PeerFault, Told};
+use dm_peer::State;
 use std::alloc::Global;
 
 const NEIGHBOURS: usize = 2000;
@@ -55,9 +53,9 @@ fn run_node(
     digest: &mut Digest,
 ) -> Result<()> {
     match own_node(alloc) {
-        Ok(node) => {
-            let session = NodeSession::new(alloc, node, FIRST_MAX, MAX);
-            let mut driver = Driver::new(alloc, samples, session, *chance);
+        Ok(own) => {
+            let node = Node::new(alloc, own, FIRST_MAX, MAX);
+            let mut driver = Driver::new(alloc, samples, node, *chance);
             let done = driver.run(amount);
             digest.add(driver.notes.digest.value());
             drop(driver);
@@ -67,14 +65,15 @@ fn run_node(
     }
 }
 
-fn own_node(alloc: Global) -> Result<Node> {
+/// What the node says of itself.
+fn own_node(alloc: Global) -> Result<dm_peer::Node> {
     let mut addresses = Vec::new(alloc);
     addresses.push(Ip::V4([10, 0, 0, 2]))?;
     let host = Vec::from_slice(alloc, OWN_HOST)?;
     let realm = Vec::from_slice(alloc, b"epc.example.net")?;
     let product = String::from_str(alloc, "charging")?;
     let auth = Vec::from_slice(alloc, &[4])?;
-    let node = Node::new(
+    let node = dm_peer::Node::new(
         host,
         realm,
         addresses,
@@ -134,7 +133,26 @@ struct Notes {
 }
 
 impl Notes {
-    fn note(&mut self, answer: &NodeActions) -> Result<()> {
+    /// Notes what was told, if anything was.
+    fn note_told(&mut self, answer: &Answer) -> Result<()> {
+        match answer.told {
+            Told::Nothing => Ok(()),
+            _ => self.note(answer),
+        }
+    }
+
+    /// Notes what an order came to.
+    fn note_order(&mut self, done: Result<(), EventFault>, answer: &Answer) -> Result<()> {
+        match done {
+            Ok(()) => self.note_told(answer),
+            Err(fault) => {
+                self.digest.add(fault_number(fault));
+                Ok(())
+            }
+        }
+    }
+
+    fn note(&mut self, answer: &Answer) -> Result<()> {
         let neighbour = answer.neighbour.unwrap_or(NEIGHBOURS);
         self.digest.add(neighbour as u64);
         for action in answer.actions.as_slice() {
@@ -187,7 +205,9 @@ struct Driver {
     alloc: Global,
     chance: Chance,
     samples: Samples,
-    session: NodeSession,
+    node: Node,
+    /// Lent to each call of the node.
+    answer: Answer,
     notes: Notes,
     links: Vec<Link>,
     last_conn: u64,
@@ -202,7 +222,7 @@ struct Driver {
 }
 
 impl Driver {
-    fn new(alloc: Global, samples: Samples, session: NodeSession, chance: Chance) -> Driver {
+    fn new(alloc: Global, samples: Samples, node: Node, chance: Chance) -> Driver {
         let notes = Notes {
             digest: Digest::new(),
             asked: Vec::new(alloc),
@@ -212,7 +232,8 @@ impl Driver {
             alloc,
             chance,
             samples,
-            session,
+            node,
+            answer: Answer::new(),
             notes,
             links: Vec::new(alloc),
             last_conn: 0,
@@ -255,7 +276,7 @@ impl Driver {
         for number in 0..NEIGHBOURS as u32 {
             put(&mut self.message, 8, &letters_of(number));
             let config = template.for_host(self.alloc, self.message.as_slice())?;
-            let _index = self.session.add(config)?;
+            let _index = self.node.add(config)?;
             self.links.push(Link {
                 conn: Conn(0),
                 rest: Vec::new(self.alloc),
@@ -268,7 +289,7 @@ impl Driver {
     /// One thing happens to a neighbour by chance.
     fn go_on(&mut self) -> Result<()> {
         let index = self.chance.index(NEIGHBOURS);
-        match self.session.neighbours().state_of(index) {
+        match self.node.state_of(index) {
             Some(State::ROpen | State::IOpen) => {}
             _ => self.begin_anew(index)?,
         }
@@ -291,8 +312,8 @@ impl Driver {
 
     /// Gives an order without octets.
     fn order(&mut self, order: NodeOrder<'_>) -> Result<()> {
-        let asks = self.session.take(self.alloc, order);
-        note_asks(&mut self.notes, asks)
+        let done = self.node.order(self.alloc, order, &mut self.answer);
+        self.notes.note_order(done, &self.answer)
     }
 
     /// The connection of a neighbour.
@@ -313,27 +334,11 @@ impl Driver {
     }
 }
 
-/// Notes what an order came to.
-fn note_asks(notes: &mut Notes, asks: Result<Option<NodeActions>, EventFault>) -> Result<()> {
-    match asks {
-        Ok(Some(answer)) => {
-            let noted = notes.note(&answer);
-            drop(answer);
-            noted
-        }
-        Ok(None) => Ok(()),
-        Err(fault) => {
-            notes.digest.add(fault_number(fault));
-            Ok(())
-        }
-    }
-}
-
 /// How connections are made and lost.
 impl Driver {
     /// A neighbour that isn't open gets a new connection.
     fn begin_anew(&mut self, index: usize) -> Result<()> {
-        if self.session.neighbours().state_of(index) != Some(State::Closed) {
+        if self.node.state_of(index) != Some(State::Closed) {
             self.order(NodeOrder::Reset(index))?;
         }
         if self.chance.is_one_of(8) {
@@ -400,7 +405,7 @@ impl Driver {
             self.order(NodeOrder::Ack(own))?;
             self.be_called(index)?;
         }
-        if self.session.neighbours().state_of(index) == Some(State::WaitReturns) {
+        if self.node.state_of(index) == Some(State::WaitReturns) {
             self.lose_election(index, own)?;
         }
         Ok(())
@@ -522,8 +527,8 @@ impl Driver {
             }
         }
         let order = NodeOrder::Submit(index, self.message.as_slice());
-        let asks = self.session.take(self.alloc, order);
-        note_asks(&mut self.notes, asks)
+        let done = self.node.order(self.alloc, order, &mut self.answer);
+        self.notes.note_order(done, &self.answer)
     }
 
     /// Tells what came: whole messages where they lie, and what is left as octets of the stream.
@@ -545,13 +550,11 @@ impl Driver {
     /// no such message.
     fn hear(&mut self, conn: Conn, told: usize) -> Result<usize> {
         let piece = self.piece.get(told..).unwrap_or(b"");
-        match self.session.hear(self.alloc, &(), conn, piece) {
-            Ok(Some(heard)) => {
-                let noted = self.notes.note(&heard.turn.answer);
-                let length = heard.len;
-                drop(heard);
-                noted.and(Ok(length))
-            }
+        match self
+            .node
+            .hear(self.alloc, &(), conn, piece, &mut self.answer)
+        {
+            Ok(Some(length)) => self.notes.note(&self.answer).and(Ok(length)),
             Ok(None) => Ok(0),
             Err(error) => Err(error.into()),
         }
@@ -560,10 +563,9 @@ impl Driver {
     /// The octets behind so many are kept, and the messages that are whole by them are told.
     fn keep(&mut self, conn: Conn, told: usize) -> Result<()> {
         let piece = self.piece.get(told..).unwrap_or(b"");
-        let asks = self
-            .session
-            .take(self.alloc, NodeOrder::Octets(conn, piece));
-        note_asks(&mut self.notes, asks)?;
+        let order = NodeOrder::Octets(conn, piece);
+        let done = self.node.order(self.alloc, order, &mut self.answer);
+        self.notes.note_order(done, &self.answer)?;
         for _ in 0..=self.piece.len() {
             if !self.tell_next(conn)? {
                 break;
@@ -574,13 +576,11 @@ impl Driver {
 
     /// Whether something that was kept is told.
     fn tell_next(&mut self, conn: Conn) -> Result<bool> {
-        match self.session.next(self.alloc, &(), conn) {
-            Ok(Some(turn)) => {
-                let noted = self.notes.note(&turn.answer);
-                drop(turn);
-                noted.and(Ok(true))
+        match self.node.next(self.alloc, &(), conn, &mut self.answer) {
+            Ok(()) => {
+                let is_told = self.answer.told != Told::Nothing;
+                self.notes.note_told(&self.answer).and(Ok(is_told))
             }
-            Ok(None) => Ok(false),
             Err(error) => Err(error.into()),
         }
     }

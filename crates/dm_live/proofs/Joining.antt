@@ -9,7 +9,7 @@ use Rattle.dm_base.specs.declared.node.Node.{Node}
 use Rattle.dm_history.specs.History.{new_peer}
 use Rattle.dm_node.specs.Adding.{with_new}
 use Rattle.dm_node.specs.Holding.{host_at, IsKnown}
-use Rattle.dm_node_session.specs.NodeSessions.{NodeSession, with_node_peers}
+use Rattle.dm_node.specs.NodeStates.{NodeState, with_node_peers}
 use Rattle.dm_peer.specs.declared.config.Config.{Config}
 use Rattle.dm_peer.specs.declared.fault.ConfigFault.{ConfigFault}
 use Rattle.dm_peer.specs.declared.peer.Peer.{Peer}
@@ -19,7 +19,7 @@ use Rattle.dm_live.specs.Beginnings.{config_fault_name, hosts_told, first_told, 
 use Rattle.dm_live.specs.Beginnings.{node_told_fault, go_fault, IsNodeOf, IsConfiguredFor, IsNewFor}
 use Rattle.dm_live.specs.Beginnings.{AreNewFor, AreUnmet, compares_hosts}
 use Rattle.dm_slots.specs.Acquaintances.{Acquaintance}
-use Rattle.dm_node_session.specs.NodeKnown.{with_nobody}
+use Rattle.dm_node.specs.NodeKnown.{with_nobody}
 use Rattle.dm_live.specs.Beginnings.{BeginsForHosts}
 use Rattle.dm_live.specs.Joining.{AddsLike, RefusesHost}
 use Rattle.dm_live.specs.Settings.{Settings}
@@ -115,11 +115,11 @@ new_push s (other ∷ hosts) ps host p (q, qs, is, old, rest) new =
     (q, qs ++ Some p ∷ [], ap (λ v. v ++ Some p ∷ []) is, old, new_push s hosts qs host p rest new)
 
 pub begun_more : (s : Settings) (first : List ℕ) (before : List (List ℕ)) (template : Config) (host : List ℕ)
-    (t u : NodeSession) → IsConfiguredFor s first template → BeginsForHosts s before t → AddsLike template host t u
+    (t u : NodeState) → IsConfiguredFor s first template → BeginsForHosts s before t → AddsLike template host t u
     → BeginsForHosts s (before ++ host ∷ []) u
 begun_more s first before template host t u made so adds =
     let Node : Node → Type 0 = λ v. IsNodeOf s v in
-    let Begun : NodeSession → Type 0 = λ v. BeginsForHosts s (before ++ host ∷ []) v in
+    let Begun : NodeState → Type 0 = λ v. BeginsForHosts s (before ++ host ∷ []) v in
     let id : adds.config.first_id ≡ s.first_id = adds.first_id ∙ made.first_id in
     let compares : adds.config.compares ≡ compares_hosts s = adds.compares ∙ made.compares in
     let new : IsNewFor s host (new_peer adds.config adds.config.first_id) = record {
@@ -135,19 +135,19 @@ begun_more s first before template host t u made so adds =
     } in subst Begun (sym adds.added) more
 
 -- what is begun of hosts, and which are left
-pub record Joining (s : Settings) (hosts : List (List ℕ)) (t : NodeSession) : Type 0 where
+pub record Joining (s : Settings) (hosts : List (List ℕ)) (t : NodeState) : Type 0 where
   pub before : List (List ℕ)
   pub whole : before ++ hosts ≡ s.peers
   pub begun : BeginsForHosts s before t
   pub fault : peers_fault s.host [] s.peers ≡ peers_fault s.host before hosts
 
-pub joining_none : (s : Settings) (hosts : List (List ℕ)) (t : NodeSession) → hosts ≡ s.peers → BeginsForHosts s [] t
+pub joining_none : (s : Settings) (hosts : List (List ℕ)) (t : NodeState) → hosts ≡ s.peers → BeginsForHosts s [] t
     → Joining s hosts t
 joining_none s hosts t is begun =
     record { before = []; whole = is; begun = begun; fault = ap (λ v. peers_fault s.host [] v) (sym is) }
 
 pub joining_more : (s : Settings) (first : List ℕ) (template : Config) (host : List ℕ) (hosts : List (List ℕ))
-    (t u : NodeSession) → IsConfiguredFor s first template → Joining s (host ∷ hosts) t → AddsLike template host t u
+    (t u : NodeState) → IsConfiguredFor s first template → Joining s (host ∷ hosts) t → AddsLike template host t u
     → config_fault template.node.host host ≡ None → (IsKnown t.peers host → ⊥) → Joining s hosts u
 joining_more s first template host hosts t u made so adds fits new =
     let own = ap (λ v. config_fault v host) (sym made.node.host) ∙ fits in
@@ -160,14 +160,14 @@ joining_more s first template host hosts t u made so adds fits new =
     }
 
 pub joining_refused : (s : Settings) (first : List ℕ) (template : Config) (host name : List ℕ) (hosts : List (List ℕ))
-    (t : NodeSession) → IsConfiguredFor s first template → Joining s (host ∷ hosts) t
+    (t : NodeState) → IsConfiguredFor s first template → Joining s (host ∷ hosts) t
     → RefusesHost template.node.host t.peers host name → peers_fault s.host [] s.peers ≡ Some name
 joining_refused s first template host name hosts t made so refuses =
     let Refuses : List ℕ → Type 0 = λ v. RefusesHost v t.peers host name in
     let is = peer_refused s so.before t.peers s.host host name so.begun.peers (subst Refuses made.node.host refuses) in
     so.fault ∙ ap (λ v. option_or v (peers_fault s.host (so.before ++ host ∷ []) hosts)) is
 
-pub joined : (s : Settings) (t : NodeSession) → Joining s [] t → BeginsForHosts s s.peers t
+pub joined : (s : Settings) (t : NodeState) → Joining s [] t → BeginsForHosts s s.peers t
 joined s t so =
     let Begun : List (List ℕ) → Type 0 = λ v. BeginsForHosts s v t in
     subst Begun (sym (append-nil so.before) ∙ so.whole) so.begun

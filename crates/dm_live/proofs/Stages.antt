@@ -3,8 +3,8 @@ use Rattle.std.proofs.Common.{◌≡◌, inl, inr, ℕ, Bool, false, Result, Ok,
 use Rattle.std.proofs.Common.{is_ok, if◌then◌else◌}
 use Rattle.std.proofs.Common.{List, ◌++◌, ◌∷◌, [], Option, codes, ap, ◌∙◌, sym, subst, refl, append_assoc}
 use Rattle.dm_slots.specs.Acquaintances.{Acquaintance}
-use Rattle.dm_node_session.specs.declared.node_order.NodeOrder.{NodeOrder}
-use Rattle.dm_node_session.specs.NodeKnown.{acquaintance_at}
+use Rattle.dm_node.specs.declared.node_order.NodeOrder.{NodeOrder}
+use Rattle.dm_node.specs.NodeKnown.{acquaintance_at}
 use Rattle.dm_value.specs.declared.address.Ip.{Ip}
 use Rattle.dm_live.specs.declared.setting_name.SettingName.{SettingName}
 use Rattle.dm_live.specs.declared.setting_name.SettingName.TheVariants as names
@@ -16,7 +16,7 @@ use Rattle.dm_live.specs.declared.live.Live.{Live}
 use Rattle.dm_live.specs.Drafts.{settings_of}
 use Rattle.dm_live.specs.Answers.{Answers}
 use Rattle.dm_live.specs.Meetings.{Meeting, meeting_of}
-use Rattle.dm_node_session.specs.declared.node_session.NodeSession.{NodeSession}
+use Rattle.dm_node.specs.declared.node.Node.{Node}
 use Rattle.dm_live.specs.OrderLines.{AskedOfNode, node_asked, TellsOrder}
 use Rattle.dm_live.specs.SenderLines.{IsSender, sender_answer}
 use Rattle.dm_live.specs.Served.{Stage, Drafting, Running, with_dot, bad_answer, IsGo, AnswersSetting, AnswersOrder, AnswersLine}
@@ -97,7 +97,7 @@ gone_line n line a b begun old new none draft is go (answer, begins, ends) =
 
 -- a line behind it
 pub running_line : {T E : Type 0} (r : Result T E) (n : ℕ) (line : List ℕ) (settings : Settings) (begun : Begun)
-    (form : Form) (session : NodeSession) (t : Meeting) (old new : List ℕ) → begun ≡ variant.Running form session
+    (form : Form) (session : Node) (t : Meeting) (old new : List ℕ) → begun ≡ variant.Running form session
     → OnOk r ((answer : List ℕ) × AnswersOrder n form line (meeting_of session) t answer × (new ≡ old ++ answer))
     → OnOk r ((answer : List ℕ) × AnswersLine n line (stage_at settings begun) (Running form t) answer
     × (new ≡ old ++ answer))

@@ -1,15 +1,17 @@
 -- Turn by turn.
-use Rattle.std.proofs.Common.{◌≡◌, ℕ, Option, List, [], ◌∷◌, ◌++◌, ap, ◌∙◌, refl, sym, append_assoc, subst}
-use Rattle.std.proofs.Common.{Result, Ok, Err, OnOk}
+use Rattle.std.proofs.Common.{◌≡◌, inl, ℕ, Option, List, [], ◌∷◌, ◌++◌, ap, ◌∙◌, refl, sym, append_assoc, subst}
+use Rattle.std.proofs.Common.{Result, Ok, Err, OnOk, IfOk}
 use Rattle.std.proofs.lemmas.List.{flat_map_more}
 use Rattle.std.specs.Option.{option_or}
 use Rattle.dm_machine.specs.declared.connection.Conn.{Conn}
 use Rattle.dm_node.specs.Policies.{Policy}
 use Rattle.dm_peer.specs.declared.peer.Peer.{Peer}
-use Rattle.dm_node_session.specs.declared.node_order.NodeOrder.{NodeOrder}
-use Rattle.dm_node_session.specs.NodeSessions.{NodeTurn}
+use Rattle.dm_node.specs.declared.node_order.NodeOrder.{NodeOrder}
+use Rattle.dm_node.specs.NodeKnown.{KnownAfterOrder}
+use Rattle.dm_node.specs.NodeOrders.{NodeTakes}
+use Rattle.dm_node.specs.NodeStates.{NodeAnswer, NodeTurn}
 use Rattle.dm_live.specs.declared.form.Form.{Form}
-use Rattle.dm_live.specs.Answers.{turn_lines, turns_lines, whom_last, states_behind, policy_of}
+use Rattle.dm_live.specs.Answers.{asked_lines, whom_asked, turn_lines, turns_lines, whom_last, states_behind, policy_of}
 use Rattle.dm_live.specs.Answers.{TakesAs, MeetsNext, MeetsAlong, HearsOut, Answers}
 use Rattle.dm_live.specs.Meetings.{Meeting}
 
@@ -38,6 +40,21 @@ pub whom_after : (who last next : Option ℕ) (turns : List NodeTurn) (turn : No
     → next ≡ option_or turn.answer.neighbour last → next ≡ whom_last who (turns ++ turn ∷ [])
 whom_after who last next turns turn is more =
     more ∙ ap (λ v. option_or turn.answer.neighbour v) is ∙ sym (whom_push who turns turn)
+
+-- an order that was taken
+pub taken_so : {E : Type 0} (r : Result (Option ℕ) E) (form : Form) (o : NodeOrder) (m n : Meeting)
+    (asks : Option NodeAnswer) (old new : List ℕ) → NodeTakes o m.session asks n.session
+    → KnownAfterOrder asks m.session n.session m.known n.known → IfOk r (λ who. who ≡ whom_asked o asks)
+    → OnOk r (new ≡ old ++ asked_lines form o asks)
+    → IfOk r (λ who. (own : List ℕ) × TakesAs form o m who n own × (new ≡ old ++ own))
+taken_so (Err e) form o m n asks old new takes knows is text = tt
+taken_so (Ok who) form o m n asks old new takes knows is text =
+    (asked_lines form o asks, inl (asks, takes, knows, is, refl), text)
+
+-- what holds of what is done
+pub done_so : {A E : Type 0} {P Q : A → Type 0} (r : Result A E) → ((a : A) → P a → Q a) → IfOk r P → IfOk r Q
+done_so (Err e) f h = tt
+done_so (Ok a) f h = f a h
 
 -- the parts of an answer, one behind the other
 pub answered : {T E : Type 0} (r : Result T E) (form : Form) (o : NodeOrder) (s m t : Meeting) (who last : Option ℕ)

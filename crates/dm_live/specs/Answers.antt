@@ -9,11 +9,11 @@ use Rattle.dm_node.specs.declared.fault.EventFault.TheVariants as fault
 use Rattle.dm_node.specs.Holding.{peer_at}
 use Rattle.dm_node.specs.Policies.{Policy, no_strangers, told_the_first}
 use Rattle.dm_peer.specs.declared.peer.Peer.{Peer}
-use Rattle.dm_node_session.specs.declared.node_order.NodeOrder.{NodeOrder}
-use Rattle.dm_node_session.specs.declared.node_order.NodeOrder.TheVariants as order
-use Rattle.dm_node_session.specs.NodeKnown.{KnownAfterOrder, NodeKnownBehind}
-use Rattle.dm_node_session.specs.NodeOrders.{NodeTakes, NodeRefuses}
-use Rattle.dm_node_session.specs.NodeSessions.{NodeAnswer, NodeTurn, NodeTellsNext, NodeIsOut}
+use Rattle.dm_node.specs.declared.node_order.NodeOrder.{NodeOrder}
+use Rattle.dm_node.specs.declared.node_order.NodeOrder.TheVariants as order
+use Rattle.dm_node.specs.NodeKnown.{KnownAfterOrder, NodeKnownBehind}
+use Rattle.dm_node.specs.NodeOrders.{NodeTakes, NodeRefuses}
+use Rattle.dm_node.specs.NodeStates.{NodeAnswer, NodeTurn, NodeTellsNext, NodeIsOut}
 use Rattle.dm_live.specs.AnswerLines.{action_lines, arrival_line, refusal_line, standing_words}
 use Rattle.dm_live.specs.declared.form.Form.{Form}
 use Rattle.dm_live.specs.declared.form.Form.TheVariants.{Alone, Several}

@@ -15,7 +15,7 @@ use Rattle.dm_peer.specs.declared.fault.ConfigFault.TheVariants as config_faults
 use Rattle.dm_peer.specs.Hosts.{config_fault}
 use Rattle.dm_peer.specs.declared.peer.Peer.{Peer}
 use Rattle.dm_peer.specs.After.{fresh_standing}
-use Rattle.dm_node_session.specs.NodeSessions.{NodeSession}
+use Rattle.dm_node.specs.NodeStates.{NodeState}
 use Rattle.dm_slots.specs.Acquaintances.{Acquaintance, nobody}
 use Rattle.dm_slots.specs.Intakes.{none_there}
 use Rattle.dm_live.specs.declared.form.Form.{Form}
@@ -137,7 +137,7 @@ AreNewFor s (host ∷ hosts) ps =
     (p : Peer) × (qs : List (Option Peer)) × (ps ≡ Some p ∷ qs) × IsNewFor s host p × AreNewFor s hosts qs
 
 -- the session of their node with closed neighbours of these hosts, without connections
-pub record BeginsForHosts (s : Settings) (hosts : List (List ℕ)) (t : NodeSession) : Type 0 where
+pub record BeginsForHosts (s : Settings) (hosts : List (List ℕ)) (t : NodeState) : Type 0 where
   pub node : IsNodeOf s t.node
   pub peers : AreNewFor s hosts t.peers
   pub intakes : t.intakes ≡ none_there

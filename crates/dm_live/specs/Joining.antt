@@ -2,7 +2,7 @@
 use Rattle.std.specs.Prelude.{◌≡◌, ◌⊎◌, ℕ, Option, None, Some, List, codes}
 use Rattle.dm_node.specs.Adding.{with_new}
 use Rattle.dm_node.specs.Holding.{IsKnown}
-use Rattle.dm_node_session.specs.NodeSessions.{NodeSession, with_node_peers}
+use Rattle.dm_node.specs.NodeStates.{NodeState, with_node_peers}
 use Rattle.dm_peer.specs.declared.config.Config.{Config}
 use Rattle.dm_peer.specs.declared.fault.ConfigFault.{ConfigFault}
 use Rattle.dm_peer.specs.declared.peer.Peer.{Peer}
@@ -10,7 +10,7 @@ use Rattle.dm_peer.specs.Hosts.{config_fault}
 use Rattle.dm_live.specs.Beginnings.{config_fault_name}
 
 -- a closed peer of the host stands behind the others, of a configuration that is this one but for its peer
-pub record AddsLike (template : Config) (host : List ℕ) (s t : NodeSession) : Type 0 where
+pub record AddsLike (template : Config) (host : List ℕ) (s t : NodeState) : Type 0 where
   pub config : Config
   pub node : config.node ≡ template.node
   pub peer : config.peer ≡ host

@@ -6,8 +6,8 @@ use Rattle.dm_text.specs.Hexadecimal.{word_octets}
 use Rattle.dm_base.specs.Built.{cause_number}
 use Rattle.dm_machine.specs.declared.connection.Conn.{Conn}
 use Rattle.dm_base.specs.declared.kind.Cause.{Cause}
-use Rattle.dm_node_session.specs.declared.node_order.NodeOrder.{NodeOrder}
-use Rattle.dm_node_session.specs.declared.node_order.NodeOrder.TheVariants as order
+use Rattle.dm_node.specs.declared.node_order.NodeOrder.{NodeOrder}
+use Rattle.dm_node.specs.declared.node_order.NodeOrder.TheVariants as order
 use Rattle.dm_live.specs.declared.form.Form.{Form}
 use Rattle.dm_live.specs.declared.form.Form.TheVariants.{Alone, Several}
 use Rattle.dm_live.specs.declared.order_line.OrderLine.{OrderLine}

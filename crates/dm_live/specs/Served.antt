@@ -4,10 +4,10 @@ use Rattle.std.specs.Fmt.{decimal}
 use Rattle.std.specs.Io.KnownBytes.{Appends}
 use Rattle.std.specs.Str.Lines.{lines}
 use Rattle.dm_text.specs.Words.{words}
-use Rattle.dm_node_session.specs.declared.node_order.NodeOrder.{NodeOrder}
+use Rattle.dm_node.specs.declared.node_order.NodeOrder.{NodeOrder}
 use Rattle.dm_live.specs.declared.fault.LiveFault.{LiveFault}
 use Rattle.dm_live.specs.declared.fault.LiveFault.TheVariants.{Write}
-use Rattle.dm_node_session.specs.NodeKnown.{acquaintance_at}
+use Rattle.dm_node.specs.NodeKnown.{acquaintance_at}
 use Rattle.dm_live.specs.declared.form.Form.{Form}
 use Rattle.dm_live.specs.Answers.{Answers}
 use Rattle.dm_live.specs.Beginnings.{go_fault, form_told, Begins}

@@ -1,11 +1,12 @@
 //! An order, told and answered.
-ghost use Rattle.std.specs.Prelude.{◌≡◌, ◌++◌, ℕ, List, None, true, false, IfOk, IfSome, IfNone, OnOk};
+ghost use Rattle.std.specs.Prelude.{◌≡◌, ◌++◌, ℕ, List, None, Some, true, false, IfOk, IfSome, IfNone, OnOk};
 ghost use Rattle.std.specs.Option.{option_or};
 ghost use Rattle.std.specs.String.{string_bytes};
-ghost use Rattle.dm_node_session.specs.NodeSessions.{NodeTurn as OneTurn, NodeIsOut};
-ghost use Rattle.dm_node_session.specs.NodeTurns.{as_node_turn};
+ghost use Rattle.dm_node.specs.NodeStates.{NodeTurn as OneTurn, NodeIsOut};
+ghost use Rattle.dm_node.specs.Answers.{asks_of, turn_in};
 ghost use Rattle.dm_live.specs.Answers.{TakesAs, MeetsNext, MeetsOut, HearsOut, Answers};
-ghost use Rattle.dm_live.specs.Answers.{turn_lines, turns_lines, whom_asked, whom_last, refuser, policy_of};
+ghost use Rattle.dm_live.specs.Answers.{asked_lines, turn_lines, turns_lines, whom_asked, whom_last};
+ghost use Rattle.dm_live.specs.Answers.{refuser, policy_of};
 ghost use Rattle.dm_live.specs.Meetings.{meeting_of};
 ghost use Rattle.dm_live.specs.OrderLines.{node_asked};
 
@@ -14,8 +15,7 @@ use crate::answer_lines::{
 };
 use crate::form::Form;
 use dm_machine::Conn;
-use dm_node::Alone;
-use dm_node_session::{EventFault, NodeOrder, NodeSession, NodeTurn};
+use dm_node::{Alone, Answer, EventFault, Node, NodeOrder, Told};
 use std::alloc::{AllocError, Global};
 
 /// Tells the session the order, of so many peers, and appends the order's answer.
@@ -25,45 +25,63 @@ use std::alloc::{AllocError, Global};
 pub fn answer_order(
     alloc: Global,
     form: Form,
-    session: &mut NodeSession,
+    session: &mut Node,
     order: NodeOrder<'_>,
+    answer: &mut Answer,
     text: &mut String,
 ) -> Result<(), AllocError>
     ensures { OnOk result ((more : List ℕ)
         × Answers form order.entry (meeting_of session.old) (meeting_of session.new) more
         × (string_bytes text.new ≡ string_bytes text.old ++ more)) }
 {
-    let who = take_order(alloc, form, session, order, text)?;
-    let last = hear_behind(alloc, form, session, order, who, text)?;
-    put_states_behind(text, form, session.neighbours(), order, last)
+    let who = take_order(alloc, form, session, order, answer, text)?;
+    let last = hear_behind(alloc, form, session, order, who, answer, text)?;
+    put_states_behind(text, form, session, order, last)
 }
 
 /// Appends what an order comes to by itself, and answers whom it concerns.
 fn take_order(
     alloc: Global,
     form: Form,
-    session: &mut NodeSession,
+    session: &mut Node,
     order: NodeOrder<'_>,
+    answer: &mut Answer,
     text: &mut String,
 ) -> Result<Option<usize>, AllocError>
     ensures { IfOk result (λ who. (own : List ℕ)
         × TakesAs form order.entry (meeting_of session.old) who (meeting_of session.new) own
         × (string_bytes text.new ≡ string_bytes text.old ++ own)) }
 {
-    match session.take(alloc, order) {
-        Ok(Some(answer)) => {
-            put_event(text, form, &answer)?;
-            Ok(answer.neighbour)
-        }
-        Ok(None) => {
-            put_untold(text, order)?;
-            Ok(set_back_by(order))
-        }
+    match session.order(alloc, order, answer) {
+        Ok(()) => put_asked(text, form, order, answer),
         Err(fault) => {
             let who = refused_by(order, fault);
             put_neighbour(text, form, who)?;
             put_event_refusal(text, fault)?;
             Ok(who)
+        }
+    }
+}
+
+/// Appends what an order comes to that was taken, and answers whom it concerns.
+fn put_asked(
+    text: &mut String,
+    form: Form,
+    order: NodeOrder<'_>,
+    answer: &Answer,
+) -> Result<Option<usize>, AllocError>
+    ensures who { IfOk result (λ who. who ≡ whom_asked order.entry (asks_of answer.now)) }
+    ensures text { OnOk result (string_bytes text.new
+        ≡ string_bytes text.old ++ asked_lines form order.entry (asks_of answer.now)) }
+{
+    match answer.told {
+        Told::Nothing => {
+            put_untold(text, order)?;
+            Ok(set_back_by(order))
+        }
+        _ => {
+            put_event(text, form, answer)?;
+            Ok(answer.neighbour)
         }
     }
 }
@@ -108,9 +126,10 @@ fn named_by(order: NodeOrder<'_>) -> Option<usize>
 fn hear_behind(
     alloc: Global,
     form: Form,
-    session: &mut NodeSession,
+    session: &mut Node,
     order: NodeOrder<'_>,
     who: Option<usize>,
+    answer: &mut Answer,
     text: &mut String,
 ) -> Result<Option<usize>, AllocError>
     ensures { IfOk result (λ last. (turns : List OneTurn)
@@ -119,7 +138,7 @@ fn hear_behind(
         × (string_bytes text.new ≡ string_bytes text.old ++ turns_lines form turns)) }
 {
     match order {
-        NodeOrder::Octets(conn, _) => hear_out(alloc, form, session, conn, who, text),
+        NodeOrder::Octets(conn, _) => hear_out(alloc, form, session, conn, who, answer, text),
         _ => Ok(who),
     }
 }
@@ -129,9 +148,10 @@ fn hear_behind(
 fn hear_out(
     alloc: Global,
     form: Form,
-    session: &mut NodeSession,
+    session: &mut Node,
     conn: Conn,
     who: Option<usize>,
+    answer: &mut Answer,
     text: &mut String,
 ) -> Result<Option<usize>, AllocError>
     ensures { IfOk result (λ last. (turns : List OneTurn)
@@ -141,7 +161,7 @@ fn hear_out(
 {
     let mut last = who;
     'turn: for _ in 0..u64::MAX {
-        if !hear_next(alloc, form, session, conn, &mut last, text)? {
+        if !hear_next(alloc, form, session, conn, &mut last, answer, text)? {
             return Ok(last);
         }
     }
@@ -154,9 +174,10 @@ fn hear_out(
 fn hear_next(
     alloc: Global,
     form: Form,
-    session: &mut NodeSession,
+    session: &mut Node,
     conn: Conn,
     last: &mut Option<usize>,
+    answer: &mut Answer,
     text: &mut String,
 ) -> Result<bool, AllocError>
     ensures told { IfOk result (λ more. more ≡ true → (turn : OneTurn)
@@ -167,34 +188,55 @@ fn hear_next(
         × (meeting_of session.new ≡ meeting_of session.old) × (last.new ≡ last.old)
         × (string_bytes text.new ≡ string_bytes text.old)) }
 {
-    match next_turn(alloc, form, session, conn) {
-        Ok(Some(turn)) => {
-            put_turn(text, form, &turn)?;
-            *last = turn.answer.neighbour.or(*last);
-            Ok(true)
-        }
-        Ok(None) => Ok(false),
+    match next_turn(alloc, form, session, conn, answer) {
+        Ok(()) => put_heard(text, form, conn, last, answer),
         Err(error) => Err(error),
     }
 }
 
-/// Tells the next message that came on the connection, or a fault; None where there is none. What strangers send is
-/// told a peer that is alone.
+/// Appends what a turn of the connection comes to, if there was one, and answers whether; `last` is whom it concerned,
+/// where it concerned anybody.
+fn put_heard(
+    text: &mut String,
+    form: Form,
+    conn: Conn,
+    last: &mut Option<usize>,
+    answer: &Answer,
+) -> Result<bool, AllocError>
+    ensures told { IfOk result (λ more. more ≡ true → (turn : OneTurn) × (turn_in conn answer.now ≡ Some turn)
+        × (last.new ≡ option_or turn.answer.neighbour last.old)
+        × (string_bytes text.new ≡ string_bytes text.old ++ turn_lines form turn)) }
+    ensures out { IfOk result (λ more. more ≡ false → (turn_in conn answer.now ≡ None) × (last.new ≡ last.old)
+        × (string_bytes text.new ≡ string_bytes text.old)) }
+{
+    match answer.told {
+        Told::Nothing => Ok(false),
+        _ => {
+            put_turn(text, form, conn, answer)?;
+            *last = answer.neighbour.or(*last);
+            Ok(true)
+        }
+    }
+}
+
+/// Tells the next message that came on the connection, or a fault, if there is one. What strangers send is told a peer
+/// that is alone.
 fn next_turn(
     alloc: Global,
     form: Form,
-    session: &mut NodeSession,
+    session: &mut Node,
     conn: Conn,
-) -> Result<Option<NodeTurn>, AllocError>
-    ensures told { IfOk result (λ found. IfSome found (λ turn. MeetsNext (policy_of form) conn
-        (meeting_of session.old) (as_node_turn turn) (meeting_of session.new))) }
-    ensures out { IfOk result (λ found. IfNone found (NodeIsOut conn (meeting_of session.old).session
+    answer: &mut Answer,
+) -> Result<(), AllocError>
+    ensures told { OnOk result (IfSome (turn_in conn answer.new) (λ turn. MeetsNext (policy_of form) conn
+        (meeting_of session.old) turn (meeting_of session.new))) }
+    ensures out { OnOk result (IfNone (turn_in conn answer.new) (NodeIsOut conn (meeting_of session.old).session
         × ((meeting_of session.new).session ≡ (meeting_of session.old).session))) }
-    ensures unmet { IfOk result (λ found. IfNone found (
+    ensures unmet { OnOk result (IfNone (turn_in conn answer.new) (
         (meeting_of session.new).known ≡ (meeting_of session.old).known)) }
 {
     match form {
-        Form::Alone => session.next(alloc, &Alone, conn),
-        Form::Several => session.next(alloc, &(), conn),
+        Form::Alone => session.next(alloc, &Alone, conn, answer),
+        Form::Several => session.next(alloc, &(), conn, answer),
     }
 }

@@ -1,5 +1,5 @@
 //! The lines of an answer.
-ghost use Rattle.std.specs.Prelude.{◌≡◌, ◌≢◌, ◌∷◌, ◌++◌, [], Some, OnOk, codes};
+ghost use Rattle.std.specs.Prelude.{◌≡◌, ◌≢◌, ◌∷◌, ◌++◌, [], None, Some, IfSome, OnOk, codes};
 ghost use Rattle.std.specs.Fmt.{decimal};
 ghost use Rattle.std.specs.String.{string_bytes};
 ghost use Rattle.hex.specs.Hex.{encode_lower};
@@ -7,7 +7,9 @@ ghost use Rattle.dm_live.specs.AnswerLines.{action_line, action_lines, arrival_l
 ghost use Rattle.dm_node.specs.Holding.{peer_at};
 ghost use Rattle.dm_node.specs.declared.fault.EventFault.TheVariants as faults;
 ghost use Rattle.dm_peer.specs.declared.fault.PeerFault.TheVariants as peer_faults;
-ghost use Rattle.dm_node_session.specs.NodeTurns.{as_answer, as_node_turn};
+ghost use Rattle.dm_node.specs.NodeSeen.{node_state_of};
+ghost use Rattle.dm_node.specs.Answers.{as_answer, turn_in};
+ghost use Rattle.dm_node.specs.declared.answer.Told.TheVariants.{Message};
 ghost use Rattle.dm_live.specs.Answers.{ignored_line, neighbour_line, event_lines, turn_lines, event_refusal_line};
 ghost use Rattle.dm_live.specs.Answers.{state_line, states_lines, concerned_state_line, states_behind};
 ghost use Rattle.dm_live.specs.OrderLines.{node_asked};
@@ -17,7 +19,7 @@ ghost use Rattle.dm_live.specs.AnswerLines.{held_words, standing_words};
 use crate::form::Form;
 use crate::line_ends::{end_with_number, end_with_octets};
 use dm_machine::Conn;
-use dm_node_session::{EventFault, Neighbours, NodeActions, NodeOrder, NodeTurn};
+use dm_node::{Answer, EventFault, Node, NodeOrder, Told};
 use dm_peer::{Action, Peer, PeerFault};
 use dm_text::put_decimal;
 use std::alloc::AllocError;
@@ -55,14 +57,17 @@ fn put_actions(text: &mut String, actions: &[Action]) -> Result<(), AllocError>
     Ok(())
 }
 
-/// Appends that a whole message came, where one did.
+/// Appends that a whole message came on the connection, where that was told.
 #[tactic(auto, unfolding(crate::specs::AnswerLines::arrival_line))]
-fn put_arrival(text: &mut String, arrived: Option<Conn>) -> Result<(), AllocError>
-    ensures { OnOk result (string_bytes text.new ≡ string_bytes text.old ++ arrival_line arrived) }
+fn put_arrival(text: &mut String, conn: Conn, told: Told) -> Result<(), AllocError>
+    ensures message { told ≡ Message
+        → OnOk result (string_bytes text.new ≡ string_bytes text.old ++ arrival_line (Some conn)) }
+    ensures other { (told ≡ Message → ⊥)
+        → OnOk result (string_bytes text.new ≡ string_bytes text.old ++ arrival_line None) }
 {
-    match arrived {
-        Some(conn) => end_with_number(text, "arrived ", conn.0),
-        None => Ok(()),
+    match told {
+        Told::Message => end_with_number(text, "arrived ", conn.0),
+        _ => Ok(()),
     }
 }
 
@@ -131,11 +136,7 @@ pub(crate) fn put_neighbour(
 }
 
 /// Appends the lines of what an event asked for.
-pub(crate) fn put_event(
-    text: &mut String,
-    form: Form,
-    answer: &NodeActions,
-) -> Result<(), AllocError>
+pub(crate) fn put_event(text: &mut String, form: Form, answer: &Answer) -> Result<(), AllocError>
     ensures { OnOk result (string_bytes text.new
         ≡ string_bytes text.old ++ event_lines form (as_answer answer.now)) }
 {
@@ -143,14 +144,19 @@ pub(crate) fn put_event(
     put_actions(text, answer.actions.as_slice())
 }
 
-/// Appends the lines of a message that was told, or of a fault.
-pub(crate) fn put_turn(text: &mut String, form: Form, turn: &NodeTurn) -> Result<(), AllocError>
-    ensures { OnOk result (string_bytes text.new
-        ≡ string_bytes text.old ++ turn_lines form (as_node_turn turn.now)) }
+/// Appends the lines of a message of the connection that was told, or of a fault.
+pub(crate) fn put_turn(
+    text: &mut String,
+    form: Form,
+    conn: Conn,
+    turn: &Answer,
+) -> Result<(), AllocError>
+    ensures { OnOk result (IfSome (turn_in conn turn.now) (λ told. string_bytes text.new
+        ≡ string_bytes text.old ++ turn_lines form told)) }
 {
-    put_neighbour(text, form, turn.answer.neighbour)?;
-    put_arrival(text, turn.arrived)?;
-    put_actions(text, turn.answer.actions.as_slice())
+    put_neighbour(text, form, turn.neighbour)?;
+    put_arrival(text, conn, turn.told)?;
+    put_actions(text, turn.actions.as_slice())
 }
 
 /// Appends that an order told no event, where it is one of those that tell one.
@@ -216,18 +222,14 @@ fn put_all_states(text: &mut String, places: &[Option<Peer>]) -> Result<(), Allo
 
 /// Appends how the neighbour of the number stands, if there is one.
 #[tactic(auto, unfolding(crate::specs::Answers::state_line))]
-fn put_state_at(
-    text: &mut String,
-    neighbours: &Neighbours,
-    index: Option<usize>,
-) -> Result<(), AllocError>
+fn put_state_at(text: &mut String, node: &Node, index: Option<usize>) -> Result<(), AllocError>
     ensures { OnOk result (string_bytes text.new
-        ≡ string_bytes text.old ++ concerned_state_line index neighbours.now.peers) }
+        ≡ string_bytes text.old ++ concerned_state_line index (node_state_of node.now).peers) }
 {
     let Some(index) = index else {
         return Ok(());
     };
-    match neighbours.peer(index) {
+    match node.peer(index) {
         Some(peer) => put_peer_state(text, index, peer),
         None => Ok(()),
     }
@@ -235,11 +237,11 @@ fn put_state_at(
 
 /// Appends how the peer stands that is alone.
 #[tactic(auto, unfolding(crate::specs::Answers::state_line))]
-fn put_state_alone(text: &mut String, neighbours: &Neighbours) -> Result<(), AllocError>
+fn put_state_alone(text: &mut String, node: &Node) -> Result<(), AllocError>
     ensures { OnOk result (string_bytes text.new
-        ≡ string_bytes text.old ++ state_line Form.Alone 0 (peer_at neighbours.now.peers 0)) }
+        ≡ string_bytes text.old ++ state_line Form.Alone 0 (peer_at (node_state_of node.now).peers 0)) }
 {
-    match neighbours.peer(0) {
+    match node.peer(0) {
         Some(peer) => {
             text.push_str("state ")?;
             put_standing(text, peer)
@@ -253,16 +255,16 @@ fn put_state_alone(text: &mut String, neighbours: &Neighbours) -> Result<(), All
 pub(crate) fn put_states_behind(
     text: &mut String,
     form: Form,
-    neighbours: &Neighbours,
+    node: &Node,
     order: NodeOrder<'_>,
     last: Option<usize>,
 ) -> Result<(), AllocError>
     ensures { OnOk result (string_bytes text.new
-        ≡ string_bytes text.old ++ states_behind form order.entry last neighbours.now.peers) }
+        ≡ string_bytes text.old ++ states_behind form order.entry last (node_state_of node.now).peers) }
 {
     match (form, order) {
-        (Form::Alone, _) => put_state_alone(text, neighbours),
-        (Form::Several, NodeOrder::ResetAll) => put_all_states(text, neighbours.iter().as_slice()),
-        (Form::Several, _) => put_state_at(text, neighbours, last),
+        (Form::Alone, _) => put_state_alone(text, node),
+        (Form::Several, NodeOrder::ResetAll) => put_all_states(text, node.iter().as_slice()),
+        (Form::Several, _) => put_state_at(text, node, last),
     }
 }

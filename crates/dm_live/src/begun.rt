@@ -11,7 +11,7 @@ use crate::answer_lines::put_fault;
 use crate::draft::Draft;
 use crate::form::Form;
 use crate::peers::node_session;
-use dm_node_session::NodeSession;
+use dm_node::Node;
 use dm_peer::Config;
 use std::alloc::{AllocError, Global};
 
@@ -20,7 +20,7 @@ use std::alloc::{AllocError, Global};
 pub(crate) enum Begun {
     Nothing,
     /// Of so many peers.
-    Running(Form, NodeSession),
+    Running(Form, Node),
 }
 
 /// How many peers the draft tells.

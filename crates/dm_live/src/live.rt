@@ -15,7 +15,7 @@ use crate::draft::Draft;
 use crate::form::Form;
 use crate::order_line::read_order;
 use crate::sender_lines::{put_sender_at, read_sender};
-use dm_node_session::NodeSession;
+use dm_node::{Answer, Node};
 use dm_text::Words;
 use std::alloc::{AllocError, Global};
 use std::mem;
@@ -25,6 +25,8 @@ use std::mem;
 pub(crate) struct Live {
     draft: Draft,
     begun: Begun,
+    /// What an order asks for, lent to each.
+    answer: Answer,
 }
 
 impl Live {
@@ -35,6 +37,7 @@ impl Live {
         Live {
             draft: Draft::new(alloc),
             begun: Begun::Nothing,
+            answer: Answer::new(),
         }
     }
 
@@ -51,7 +54,7 @@ impl Live {
             × (string_bytes text.new ≡ string_bytes text.old ++ answer)) }
     {
         if let Begun::Running(form, session) = &mut self.begun {
-            return answer_told(alloc, *form, session, number, line, text);
+            return answer_told(alloc, *form, session, &mut self.answer, number, line, text);
         }
         if is_go(line) {
             let begun = begin(alloc, &self.draft, number, text)?;
@@ -105,7 +108,8 @@ fn answer_setting(
 fn answer_told(
     alloc: Global,
     form: Form,
-    session: &mut NodeSession,
+    session: &mut Node,
+    answer: &mut Answer,
     number: u64,
     line: &[u8],
     text: &mut String,
@@ -120,7 +124,7 @@ fn answer_told(
     }
     match read_order(alloc, form, line)? {
         Some(order) => {
-            answer_order(alloc, form, session, order.order(), text)?;
+            answer_order(alloc, form, session, order.order(), answer, text)?;
             text.push_str(".\n")
         }
         None => put_fault(text, number, "Syntax"),

@@ -1,7 +1,7 @@
 //! The lines of orders.
 ghost use Rattle.std.specs.Prelude.{◌≡◌, ◌≢◌, IfOk, IfSome, IfNone, MatchOption};
 ghost use Rattle.dm_text.specs.Words.{words};
-ghost use Rattle.dm_node_session.specs.declared.node_order.NodeOrder.{NodeOrder as AskedNodeOrder};
+ghost use Rattle.dm_node.specs.declared.node_order.NodeOrder.{NodeOrder as AskedNodeOrder};
 ghost use Rattle.dm_live.specs.OrderLines.{node_asked, told_order, TellsNamed, TellsOrder};
 
 use crate::form::Form;
@@ -12,7 +12,7 @@ use crate::order_words::{
 };
 use dm_base::Cause;
 use dm_machine::Conn;
-use dm_node_session::NodeOrder;
+use dm_node::NodeOrder;
 use dm_text::{Words, read_hex_word, read_long_number};
 use dm_wire::Octets;
 use std::alloc::{AllocError, Global};

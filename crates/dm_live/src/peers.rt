@@ -2,14 +2,14 @@
 ghost use Rattle.std.specs.Prelude.{◌≡◌, [], None, Some, IfOk, IfErr, OnOk};
 ghost use Rattle.dm_node.specs.Holding.{IsKnown};
 ghost use Rattle.dm_peer.specs.Hosts.{config_fault};
-ghost use Rattle.dm_node_session.specs.NodeSeen.{node_session_of, node_known_of};
-ghost use Rattle.dm_node_session.specs.NodeKnown.{with_nobody};
+ghost use Rattle.dm_node.specs.NodeSeen.{node_state_of, node_known_of};
+ghost use Rattle.dm_node.specs.NodeKnown.{with_nobody};
 ghost use Rattle.dm_live.specs.Beginnings.{IsConfiguredFor, BeginsForHosts, AreUnmet, peers_fault, first_told};
 ghost use Rattle.dm_live.specs.Drafts.{settings_of};
 ghost use Rattle.dm_live.specs.Joining.{AddsLike, RefusesHost};
 
 use crate::draft::{Draft, config_fault_name};
-use dm_node_session::{AddFault, NodeSession};
+use dm_node::{AddFault, Node};
 use dm_peer::Config;
 use std::alloc::{AllocError, Global};
 
@@ -18,16 +18,16 @@ fn add_peer(
     alloc: Global,
     template: &Config,
     host: &[u8],
-    session: &mut NodeSession,
+    session: &mut Node,
 ) -> Result<Result<(), &'static str>, AllocError>
-    ensures added { IfOk result (λ added. OnOk added (AddsLike template.now host.now (node_session_of session.old)
-        (node_session_of session.new))) }
+    ensures added { IfOk result (λ added. OnOk added (AddsLike template.now host.now (node_state_of session.old)
+        (node_state_of session.new))) }
     ensures unmet { IfOk result (λ added. OnOk added (node_known_of session.new
         ≡ with_nobody (node_known_of session.old))) }
     ensures fit { IfOk result (λ added. OnOk added (config_fault template.now.node.host host.now ≡ None)) }
-    ensures new { IfOk result (λ added. OnOk added (IsKnown (node_session_of session.old).peers host.now → ⊥)) }
+    ensures new { IfOk result (λ added. OnOk added (IsKnown (node_state_of session.old).peers host.now → ⊥)) }
     ensures fault { IfOk result (λ added. IfErr added (λ name.
-        RefusesHost template.now.node.host (node_session_of session.old).peers host.now name.now)) }
+        RefusesHost template.now.node.host (node_state_of session.old).peers host.now name.now)) }
 {
     let config = match template.for_host(alloc, host) {
         Ok(config) => config,
@@ -45,13 +45,13 @@ fn add_peers(
     alloc: Global,
     draft: &Draft,
     template: &Config,
-    session: &mut NodeSession,
+    session: &mut Node,
 ) -> Result<Result<(), &'static str>, AllocError>
     requires made { IsConfiguredFor (settings_of draft.now) (first_told (settings_of draft.now).peers) template.now }
-    requires none { BeginsForHosts (settings_of draft.now) [] (node_session_of session.old) }
+    requires none { BeginsForHosts (settings_of draft.now) [] (node_state_of session.old) }
     requires nobody { AreUnmet (node_known_of session.old) }
     ensures begun { IfOk result (λ added. OnOk added (BeginsForHosts (settings_of draft.now)
-        (settings_of draft.now).peers (node_session_of session.new))) }
+        (settings_of draft.now).peers (node_state_of session.new))) }
     ensures unmet { IfOk result (λ added. OnOk added (AreUnmet (node_known_of session.new))) }
     ensures good { IfOk result (λ added. OnOk added (peers_fault (settings_of draft.now).host []
         (settings_of draft.now).peers ≡ None)) }
@@ -74,10 +74,10 @@ pub(crate) fn node_session(
     alloc: Global,
     draft: &Draft,
     template: &Config,
-) -> Result<Result<NodeSession, &'static str>, AllocError>
+) -> Result<Result<Node, &'static str>, AllocError>
     requires made { IsConfiguredFor (settings_of draft.now) (first_told (settings_of draft.now).peers) template.now }
     ensures begun { IfOk result (λ made. IfOk made (λ session. BeginsForHosts (settings_of draft.now)
-        (settings_of draft.now).peers (node_session_of session))) }
+        (settings_of draft.now).peers (node_state_of session))) }
     ensures unmet { IfOk result (λ made. IfOk made (λ session. AreUnmet (node_known_of session))) }
     ensures good { IfOk result (λ made. OnOk made (peers_fault (settings_of draft.now).host []
         (settings_of draft.now).peers ≡ None)) }
@@ -85,7 +85,7 @@ pub(crate) fn node_session(
         (settings_of draft.now).peers ≡ Some name.now)) }
 {
     let node = template.node().clone()?;
-    let mut session = NodeSession::new(alloc, node, draft.first_max(), draft.most());
+    let mut session = Node::new(alloc, node, draft.first_max(), draft.most());
     match add_peers(alloc, draft, template, &mut session) {
         Ok(Ok(())) => Ok(Ok(session)),
         Ok(Err(name)) => {

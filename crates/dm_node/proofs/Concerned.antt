@@ -66,3 +66,9 @@ pub one_there : (policy : Policy) (ps : List (Option Peer)) (e : NodeEvent) (o :
     IsNeighbourhood ps → o ≡ Some k → IfSome o (Concerns policy ps e) → Concerns policy ps e i → i ≡ k
 one_there policy ps e None i k n is a b = absurd (cc)
 one_there policy ps e (Some j) i k n is a b = one_is_concerned policy ps e i j n b a ∙ some_number j k is
+
+-- where one was found it isn't nobody's
+pub of_nobody : (policy : Policy) (ps : List (Option Peer)) (e : NodeEvent) (o : Option ℕ) (k : ℕ) → o ≡ Some k →
+    IfSome o (Concerns policy ps e) → ((i : ℕ) → Concerns policy ps e i → ⊥) → ⊥
+of_nobody policy ps e None k is a none = absurd (cc)
+of_nobody policy ps e (Some j) k is a none = none j a

@@ -1,13 +1,11 @@
 -- What the rules of the neighbour that is concerned say of it.
-use Rattle.std.proofs.Common.{◌≡◌, ◌⊎◌, inl, inr, ℕ, true, Option, Some, List, Result, Ok, Err, sym, subst, ◌∙◌}
-use Rattle.dm_peer.specs.Acts.{Refused, acts}
+use Rattle.std.proofs.Common.{◌≡◌, ◌⊎◌, inl, inr, ℕ, Option, Some, List, Result, Ok, Err, sym, subst, ◌∙◌}
 use Rattle.dm_peer.specs.declared.fault.PeerFault.{PeerFault}
 use Rattle.dm_peer.specs.declared.fault.PeerFault.TheVariants.{NoMemory}
 use Rattle.dm_peer.specs.declared.peer.Peer.{Peer}
 use Rattle.dm_peer.specs.Events.{PeerEvent}
 use Rattle.dm_peer.specs.Refusing.{refusal_of}
-use Rattle.dm_peer.specs.Silence.{is_silent}
-use Rattle.dm_node.specs.Declining.{IsRuledOut, TakesNoMemory, IsDeclined}
+use Rattle.dm_node.specs.Declining.{IsRuledOut}
 use Rattle.dm_node.specs.Holding.{peer_at}
 
 same_peer : (x y : Peer) → Some x ≡ Some y → x ≡ y
@@ -24,13 +22,6 @@ module _ (ps : List (Option Peer)) (i : ℕ) (x : Peer) (at : peer_at ps i ≡ S
   rule_of f out =
       subst (λ (p : Peer). refusal_of p.standing.core.state e ≡ Some f) (same_peer out.peer x (sym out.at ∙ at))
       out.rule
-
-  pub silent_of : TakesNoMemory ps i e → is_silent x e ≡ true
-  silent_of takes =
-      subst (λ (p : Peer). is_silent p e ≡ true) (same_peer takes.peer x (sym takes.at ∙ at)) takes.silent
-
-  pub declined_here : (f : PeerFault) → acts x e ≡ Refused f → IsDeclined ps i e f
-  declined_here f refused = record { peer = x; at = at; refused = refused }
 
 -- what was done wasn't refused, and one fault is refused with
 pub not_done : {A P : Type 0} (a : A) (f : PeerFault) (r : Result A PeerFault) → r ≡ Ok a → r ≡ Err f → P

@@ -1,20 +1,13 @@
 -- What keeps a roster.
-use Rattle.std.proofs.Common.{◌≡◌, ℕ, zero, suc, true, false, List, [], ◌∷◌, option_map, Option, None, Some, refl, sym, ap, subst, ◌∙◌, inl, inr, ◌++◌, Result, Ok, Err, OnOk, OnErr}
+use Rattle.std.proofs.Common.{◌≡◌, ℕ, zero, suc, true, false, List, [], ◌∷◌, option_map, Option, None, Some, refl, sym, ap, subst, ◌∙◌, inl, inr}
 use Rattle.std.proofs.Math.ListN.{set}
 use Rattle.dm_machine.specs.declared.connection.Conn.{Conn}
-use Rattle.dm_peer.specs.After.{fresh_standing}
-use Rattle.dm_peer.specs.declared.config.Config.{Config}
 use Rattle.dm_peer.specs.declared.peer.Peer.{Peer}
-use Rattle.dm_node.specs.Adding.{with_new}
 use Rattle.dm_node.specs.Emptying.{set_back, all_set_back}
 use Rattle.dm_node.specs.Holding.{peer_at, holds_it, holds_at, host_of, host_at, AreApart, AreUnlike}
-use Rattle.dm_node.specs.Owning.{has, AreOwned, IsResettled}
+use Rattle.dm_node.specs.Owning.{has, IsResettled}
 use Rattle.dm_node.specs.declared.owners.Holding.{Holding}
-use Rattle.dm_node.specs.declared.owners.Owners.{Owners}
-use Rattle.dm_node.specs.declared.fault.AddFault.{AddFault}
-use Rattle.dm_node.proofs.Growing.{still}
-use Rattle.dm_node.proofs.Owned.{holder_there}
-use Rattle.dm_node.proofs.Places.{kept_at, set_at, set_else}
+use Rattle.dm_node.proofs.Places.{set_at, set_else}
 use Rattle.dm_node.proofs.Taking.{same_or, two_truths}
 
 -- fewer are held
@@ -88,21 +81,6 @@ pub resettled : (ps qs : List (Option Peer)) (i : ℕ) (y : Option Peer) (before
     ((c : Conn) → has before c ≡ holds_at ps c i) → IsResettled ps qs i before
 resettled ps qs i y before is held =
     record { held = held; others = λ j un. ap (λ l. peer_at l j) is ∙ set_else ps i j y un }
-
--- one more, that holds nothing
-owned_grown : (ps : List (Option Peer)) (y : Peer) (n : ℕ) (o : Owners) → y.standing ≡ fresh_standing n → AreOwned o ps →
-    AreOwned o (ps ++ Some y ∷ [])
-owned_grown ps y n o is owned = record {
-  holds = λ w c i e.
-      subst (λ x. holds_it c x ≡ true)
-      (sym (kept_at ps (Some y) i (holder_there ps c i (owned.holds w c i e)))) (owned.holds w c i e);
-  noted = λ w c i h. owned.noted w c i (still ps y n c i is h);
-}
-
-pub owned_put : (r : Result ℕ AddFault) (ps qs : List (Option Peer)) (k : Config) (o : Owners) →
-    OnOk r (qs ≡ with_new ps k) → OnErr r (qs ≡ ps) → AreOwned o ps → AreOwned o qs
-owned_put (Ok i) ps qs k o ok err owned = subst (AreOwned o) (sym ok) (owned_grown ps _ k.first_id o refl owned)
-owned_put (Err f) ps qs k o ok err owned = subst (AreOwned o) (sym err) owned
 
 -- each one was set back
 pub each_back : (ps : List (Option Peer)) (j : ℕ) → peer_at (all_set_back ps) j ≡ option_map set_back (peer_at ps j)

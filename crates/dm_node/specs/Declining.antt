@@ -1,12 +1,11 @@
--- When the neighbour that an event concerns refuses it, and when want of memory is no reason to (RFC 6733, 5.6).
-use Rattle.std.specs.Prelude.{◌≡◌, ◌⊎◌, ℕ, true, Option, Some, List}
-use Rattle.dm_peer.specs.Acts.{Refused, acts}
+-- When the neighbour that an event concerns refuses it, and when memory is wanted for it (RFC 6733, 5.6).
+use Rattle.std.specs.Prelude.{◌≡◌, ◌⊎◌, ℕ, Option, Some, Result, Err, IfErr, IsTrue, List}
+use Rattle.dm_peer.specs.Acts.{Refused, acts, wants_memory}
 use Rattle.dm_peer.specs.declared.fault.PeerFault.{PeerFault}
 use Rattle.dm_peer.specs.declared.fault.PeerFault.TheVariants.{NoMemory}
 use Rattle.dm_peer.specs.declared.peer.Peer.{Peer}
 use Rattle.dm_peer.specs.Events.{PeerEvent}
 use Rattle.dm_peer.specs.Refusing.{refusal_of}
-use Rattle.dm_peer.specs.Silence.{is_silent}
 use Rattle.dm_node.specs.declared.events.NodeEvent.{NodeEvent}
 use Rattle.dm_node.specs.declared.fault.EventFault.{EventFault}
 use Rattle.dm_node.specs.declared.fault.EventFault.TheVariants as fault
@@ -19,12 +18,6 @@ pub record IsRuledOut (ps : List (Option Peer)) (i : ℕ) (e : PeerEvent) (f : P
   pub peer : Peer
   pub at : peer_at ps i ≡ Some peer
   pub rule : refusal_of peer.standing.core.state e ≡ Some f
-
--- what the event asks of the neighbour of this number takes no memory
-pub record TakesNoMemory (ps : List (Option Peer)) (i : ℕ) (e : PeerEvent) : Type 0 where
-  pub peer : Peer
-  pub at : peer_at ps i ≡ Some peer
-  pub silent : is_silent peer e ≡ true
 
 -- the neighbour of this number refuses the event whatever memory there is
 pub record IsDeclined (ps : List (Option Peer)) (i : ℕ) (e : PeerEvent) (f : PeerFault) : Type 0 where
@@ -46,3 +39,34 @@ IsByRule policy ps e f = IsMisdirected ps e f
 abbrev pub IsDeclinedHere : Policy → List (Option Peer) → NodeEvent → EventFault → Type 0
 IsDeclinedHere policy ps e (fault.Peer f) = (i : ℕ) × Concerns policy ps e i × IsDeclined ps i (told_of e) f
 IsDeclinedHere policy ps e f = IsMisdirected ps e f
+
+-- but for want of memory an event comes to what the rules say: where it isn't misdirected and they refuse it, it is
+-- refused so, and nothing else is
+pub record GoesByRule {A : Type 0} (policy : Policy) (ps : List (Option Peer)) (e : NodeEvent)
+    (result : Result A EventFault) : Type 0 where
+  pub refuses : (i : ℕ) (f : PeerFault) → IsDirected ps e → Concerns policy ps e i → IsRuledOut ps i (told_of e) f
+      → result ≡ Err (fault.Peer f)
+  pub ruled : IfErr result (IsByRule policy ps e)
+
+-- and where it is misdirected it is refused as such
+pub record GoesByAllRules {A : Type 0} (policy : Policy) (ps : List (Option Peer)) (e : NodeEvent)
+    (result : Result A EventFault) : Type 0 where
+  pub misdirected : (f : EventFault) → IsMisdirected ps e f → result ≡ Err f
+  pub by_rule : GoesByRule policy ps e result
+
+-- the neighbour that the event concerns sends something at it, or hands something up
+abbrev pub EventTakesMemory : Policy → List (Option Peer) → NodeEvent → Type 0
+EventTakesMemory policy ps e =
+    (i : ℕ) × (p : Peer) × Concerns policy ps e i × (peer_at ps i ≡ Some p) × IsTrue (wants_memory (acts p (told_of e)))
+
+-- this is the fault with which the rules refuse the event
+pub record IsRuleOf (policy : Policy) (ps : List (Option Peer)) (e : NodeEvent) (f : EventFault) : Type 0 where
+  pub misdirected : (g : EventFault) → IsMisdirected ps e g → f ≡ g
+  pub refuses : (i : ℕ) (g : PeerFault) → IsDirected ps e → Concerns policy ps e i → IsRuledOut ps i (told_of e) g
+      → f ≡ fault.Peer g
+  pub ruled : IsByRule policy ps e f
+
+-- they don't refuse it
+pub record IsUnruled (policy : Policy) (ps : List (Option Peer)) (e : NodeEvent) : Type 0 where
+  pub directed : IsDirected ps e
+  pub allowed : (i : ℕ) (f : PeerFault) → Concerns policy ps e i → IsRuledOut ps i (told_of e) f → ⊥

@@ -12,3 +12,14 @@ pub mod Policies
 pub mod Rosters
 pub mod Strangers
 pub mod Telling
+pub mod NodeStates
+pub mod Answers
+pub mod NodeKnown
+pub mod NodeSeen
+pub mod NodeHeld
+pub mod NodeOrders
+pub mod NodeLaws
+pub mod NodeHearing
+pub mod NodeStreams
+pub mod NodeEnding
+pub mod NodeSteps

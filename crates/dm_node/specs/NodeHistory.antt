@@ -1,7 +1,5 @@
--- What has happened to the neighbours of a node, the latest first, from no neighbours on. Each call of `Neighbours` is
--- one of these steps, by its clauses: `add`, `remove`, `reset` and `reset_all` by those that they are named after, and
--- `on` tells one neighbour or moves nobody (`told`), or is declined by one (`refused`), or misdirected; where a
--- stranger is taken in it is two of them: a neighbour is added and then told the event (`told`: Joins).
+-- What has happened to the neighbours of a node, the latest first, from no neighbours on. Each call of a node is such
+-- steps (`laws::calls_are_steps`); an order that a neighbour declines, or that is misdirected, is one too.
 use Rattle.std.specs.Prelude.{◌≡◌, ℕ, nat_eq, Option, Some, List, [], ◌∷◌, length, if◌then◌else◌}
 use Rattle.dm_history.specs.History.{Happened, done_at, declined_at, new_peer, Became}
 use Rattle.dm_peer.specs.declared.actions.Action.{Action}

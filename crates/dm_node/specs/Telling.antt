@@ -1,5 +1,5 @@
 -- What an event does to the neighbours: what it does to a peer, at the one that it concerns.
-use Rattle.std.specs.Prelude.{◌≡◌, ◌⊎◌, ℕ, true, false, Option, None, Some, IsSome, List, length}
+use Rattle.std.specs.Prelude.{◌≡◌, ◌⊎◌, ℕ, true, false, Option, None, Some, IsSome, IfSome, IfNone, List, length}
 use Rattle.dm_base.specs.Before.{lower}
 use Rattle.dm_machine.specs.declared.connection.Conn.{Conn}
 use Rattle.dm_peer.specs.declared.actions.Action.{Action}
@@ -91,6 +91,13 @@ Concerns policy ps (event.Gone c) i = holds_at ps c i ≡ true
 -- no other neighbour holds the connection that the event names
 abbrev pub IsAlone : List (Option Peer) → PeerEvent → ℕ → Type 0
 IsAlone ps e i = (j : ℕ) (c : Conn) → conn_of e ≡ Some c → holds_at ps c j ≡ true → j ≡ i
+
+-- whose an event is: of one neighbour, who is there and holds alone what it names, or of none
+pub record IsWhose (policy : Policy) (ps : List (Option Peer)) (e : NodeEvent) (who : Option ℕ) : Type 0 where
+  pub there : IfSome who (λ i. IsSome (peer_at ps i))
+  pub concerned : IfSome who (Concerns policy ps e)
+  pub nobody : IfNone who ((i : ℕ) → Concerns policy ps e i → ⊥)
+  pub alone : IfSome who (IsAlone ps (told_of e))
 
 -- no neighbour has the number
 abbrev pub IsNobody : List (Option Peer) → ℕ → EventFault → Type 0

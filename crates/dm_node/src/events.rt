@@ -26,11 +26,11 @@ pub enum NodeEvent<'a> {
     Gone(Conn),
 }
 
-/// What an event asks for, and of which neighbour.
-#[derive(Debug, Drop)]
-pub struct NodeActions {
+/// What an event asks for that concerns no neighbour, and which one was made of it.
+#[derive(Drop)]
+pub(crate) struct NodeActions {
     /// The number of the neighbour that did it; none for a stranger.
-    pub neighbour: Option<usize>,
+    pub(crate) neighbour: Option<usize>,
     /// What is to be done, in this order.
-    pub actions: Actions,
+    pub(crate) actions: Actions,
 }

@@ -15,7 +15,7 @@ use std::alloc::Global;
 const MAX_NAME: usize = 255;
 
 /// The number of the neighbour for each host in lower case.
-#[derive(Debug, Drop)]
+#[derive(Drop)]
 pub(crate) struct Hosts {
     alloc: Global,
     map: IndexMap<Vec<u8>, usize>,

@@ -1,18 +1,27 @@
-//! A node with many neighbours (RFC 6733, 5.6): each event goes to the one neighbour that it concerns, and does there
-//! what it does to a peer of its own.
+//! A node of one neighbour or of many, with its connections (RFC 6733, 5.6): each event goes to the one neighbour that
+//! it concerns, and does there what it does to a peer of its own.
 #![tactic(auto)]
 
 mod adding;
 mod alone;
+mod answer;
 mod calling;
 mod counting;
+mod driving;
 mod emptying;
 mod events;
 mod fault;
+mod hearing;
 mod hosts;
+mod known;
 pub mod laws;
 mod looking;
+mod meeting;
+mod membership;
+mod moving;
 mod neighbours;
+mod node;
+mod node_order;
 mod offering;
 mod owners;
 mod roster;
@@ -23,7 +32,11 @@ mod unknown;
 mod welcoming;
 
 pub use alone::Alone;
-pub use events::{NodeActions, NodeEvent};
+pub use answer::{Answer, Told};
+pub use dm_peer::{Action, Actions, Cause, Config, Conn, Peer, PeerFault};
+pub use dm_slots::Acquaintance;
+pub use events::NodeEvent;
 pub use fault::{AddFault, EventFault};
-pub use neighbours::Neighbours;
+pub use node::Node;
+pub use node_order::NodeOrder;
 pub use strangers::{Open, Strangers};

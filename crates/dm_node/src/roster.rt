@@ -1,4 +1,4 @@
-//! The neighbours of a node, with what finds one by its host and by a connection.
+//! The neighbours of a node, with what finds one by its host.
 ghost use Rattle.std.specs.Prelude.{◌≡◌, ◌⊎◌, ◌↔◌, ℕ, Some, IsSome, IfSome, IfNone, IfOk, IfErr};
 ghost use Rattle.std.specs.Prelude.{IsErrOf, OnOk, OnErr, true, false, ◌++◌, ◌∷◌, [], length};
 ghost use Rattle.dm_base.specs.Before.{lower};
@@ -15,35 +15,17 @@ use crate::adding::{make_room, push, put};
 use crate::counting::{one_less, one_more};
 use crate::emptying::{set_back_at, set_back_each, take_at};
 use crate::hosts::Hosts;
-use crate::looking::is_held_at;
-use crate::owners::{Owners, holding_at};
 use dm_dict::NoMemory;
-use dm_peer::{Config, Conn, Peer};
+use dm_peer::{Config, Peer};
 use std::alloc::Global;
-use std::fmt::{self, Debug, Formatter, Write};
 
 /// A peer for each neighbour, in order of adding, and the numbers of the neighbours by what they are asked for.
 #[derive(Drop)]
 pub(crate) struct Roster {
     pub(crate) peers: Vec<Option<Peer>>,
-    pub(crate) owners: Owners,
     pub(crate) hosts: Hosts,
     /// How many neighbours there are.
     pub(crate) present: usize,
-    /// The number of the neighbour that was told an event last. Who looks for a holder asks it first.
-    pub(crate) last: usize,
-}
-
-impl Debug for Roster {
-    /// All but the number by which the look-up begins.
-    fn fmt<W: Write>(&self, f: &mut Formatter<W>) -> fmt::Result {
-        f.debug_struct("Roster")
-            .field("peers", &self.peers)
-            .field("owners", &self.owners)
-            .field("hosts", &self.hosts)
-            .field("present", &self.present)
-            .finish()
-    }
 }
 
 impl Roster {
@@ -54,25 +36,9 @@ impl Roster {
     {
         Roster {
             peers: Vec::new(alloc),
-            owners: Owners::new(alloc),
             hosts: Hosts::new(alloc),
             present: 0,
-            last: 0,
         }
-    }
-
-    /// The neighbour that holds the connection.
-    #[tactic(auto, using(crate::proofs::Owned::holder_there))]
-    pub(crate) fn holder(&self, conn: Conn) -> Option<usize>
-        requires { IsRoster self.now }
-        ensures there { IfSome result (λ i. IsSome (peer_at self.now.peers.items i)) }
-        ensures found { IfSome result (λ i. holds_at self.now.peers.items conn i ≡ true) }
-        ensures none { IfNone result ((j : ℕ) → holds_at self.now.peers.items conn j ≡ false) }
-    {
-        if is_held_at(&self.peers, self.last, conn) {
-            return Some(self.last);
-        }
-        self.owners.holder(&self.peers, conn)
     }
 
     /// The neighbour that has the host, upper and lower case taken as one.
@@ -123,51 +89,44 @@ impl Roster {
         ensures roster { IsRoster self.new }
     {
         let index = self.peers.len();
-        let before = holding_at(&self.peers, index);
         match make_room(&mut self.peers, &mut self.hosts, peer.config()) {
             Ok(()) => {
                 push(&mut self.peers, peer);
                 self.present = one_more(&self.peers, self.present);
-                self.owners.settle(&self.peers, before, index);
                 Ok(index)
             }
             Err(_) => Err(NoMemory),
         }
     }
 
-    /// Takes the neighbour of the number out, and forgets its connections.
+    /// Takes the neighbour of the number out.
     pub(crate) fn take(&mut self, index: usize) -> Option<Peer>
         requires { IsRoster self.old }
         ensures gone { result ≡ peer_at self.old.peers.items index }
         ensures without { self.new.peers.items ≡ without_peer self.old.peers.items index }
         ensures roster { IsRoster self.new }
     {
-        let before = holding_at(&self.peers, index);
         let gone = take_at(&mut self.peers, index);
         self.hosts.forget_gone(&gone);
         self.present = one_less(&gone, self.present);
-        self.owners.settle(&self.peers, before, index);
         gone
     }
 
-    /// Sets the neighbour of the number back, where there is one, and forgets its connections.
+    /// Sets the neighbour of the number back, where there is one.
     pub(crate) fn set_back(&mut self, index: usize)
         requires { IsRoster self.old }
         ensures back { self.new.peers.items ≡ with_set_back self.old.peers.items index }
         ensures roster { IsRoster self.new }
     {
-        let before = holding_at(&self.peers, index);
         set_back_at(&mut self.peers, index);
-        self.owners.settle(&self.peers, before, index);
     }
 
-    /// Sets each neighbour back, and forgets all connections.
+    /// Sets each neighbour back.
     pub(crate) fn set_back_all(&mut self)
         requires { IsRoster self.old }
         ensures back { self.new.peers.items ≡ all_set_back self.old.peers.items }
         ensures roster { IsRoster self.new }
     {
         set_back_each(&mut self.peers);
-        self.owners.clear();
     }
 }

@@ -1,7 +1,9 @@
 //! Whose an event is.
-ghost use Rattle.std.specs.Prelude.{◌≡◌, ℕ, None, Some, Err, IsSome, IfOk, IfErr, IfSome, IfNone};
-ghost use Rattle.dm_node.specs.Holding.{peer_at};
+ghost use Rattle.std.specs.Prelude.{◌≡◌, ℕ, true, false, None, Some, Err, IsSome, IfOk, IfErr, IfSome, IfNone};
+ghost use Rattle.dm_node.specs.Holding.{peer_at, holds_at};
+ghost use Rattle.dm_node.specs.Owning.{AreOwned};
 ghost use Rattle.dm_node.specs.Rosters.{IsRoster};
+ghost use Rattle.dm_slots.specs.Held.{owners_of};
 ghost use Rattle.dm_node.specs.Telling.{told_of, IsCallOf, IsPorter, IsFirstFor, IsAddressed};
 ghost use Rattle.dm_node.specs.Telling.{Concerns, IsAlone, IsMisdirected};
 ghost use Rattle.dm_peer.specs.Events.{event_told};
@@ -13,6 +15,7 @@ use crate::looking::peer_at;
 use crate::roster::Roster;
 use crate::{EventFault, NodeEvent, Strangers};
 use dm_peer::{Conn, Event, Peer};
+use dm_slots::Intakes;
 
 /// The event as its neighbour is told it.
 pub(crate) fn told_of<'a>(event: NodeEvent<'a>) -> Event<'a>
@@ -73,46 +76,35 @@ fn first_for<S: Strangers>(roster: &Roster, strangers: &S, octets: &[u8]) -> Opt
     }
 }
 
+/// The neighbour that holds the connection.
+fn holder(roster: &Roster, slots: &Intakes, conn: Conn) -> Option<usize>
+    requires { AreOwned (owners_of slots.now) roster.now.peers.items }
+    ensures there { IfSome result (λ i. IsSome (peer_at roster.now.peers.items i)) }
+    ensures found { IfSome result (λ i. holds_at roster.now.peers.items conn i ≡ true) }
+    ensures none { IfNone result ((j : ℕ) → holds_at roster.now.peers.items conn j ≡ false) }
+{
+    let _count = roster.peers.len();
+    slots.owner(conn)
+}
+
 /// The neighbour that octets on a connection are for.
 fn addressed<S: Strangers>(
     roster: &Roster,
+    slots: &Intakes,
     strangers: &S,
     conn: Conn,
     octets: &[u8],
 ) -> Option<usize>
-    requires { IsRoster roster.now }
+    requires roster { IsRoster roster.now }
+    requires owned { AreOwned (owners_of slots.now) roster.now.peers.items }
     ensures there { IfSome result (λ i. IsSome (peer_at roster.now.peers.items i)) }
     ensures found { IfSome result (IsAddressed (S.policy strangers.now) roster.now.peers.items conn octets.now) }
     ensures none { IfNone result ((i : ℕ)
         → IsAddressed (S.policy strangers.now) roster.now.peers.items conn octets.now i → ⊥) }
 {
-    match roster.holder(conn) {
+    match holder(roster, slots, conn) {
         Some(index) => Some(index),
         None => first_for(roster, strangers, octets),
-    }
-}
-
-/// The number of the neighbour that the event concerns.
-pub(crate) fn concerned<S: Strangers>(
-    roster: &Roster,
-    strangers: &S,
-    event: NodeEvent<'_>,
-) -> Option<usize>
-    requires { IsRoster roster.now }
-    ensures found { IfSome result (Concerns (S.policy strangers.now) roster.now.peers.items event.entry) }
-    ensures none { IfNone result ((i : ℕ)
-        → Concerns (S.policy strangers.now) roster.now.peers.items event.entry i → ⊥) }
-{
-    match event {
-        NodeEvent::Arrived(conn, octets) => addressed(roster, strangers, conn, octets),
-        NodeEvent::Ack(conn) => roster.holder(conn),
-        NodeEvent::Nack(conn) => roster.holder(conn),
-        NodeEvent::Gone(conn) => roster.holder(conn),
-        NodeEvent::Start(index, _) => Some(index),
-        NodeEvent::Stop(index, _) => Some(index),
-        NodeEvent::Timeout(index) => Some(index),
-        NodeEvent::Tick(index) => Some(index),
-        NodeEvent::Submit(index, _) => Some(index),
     }
 }
 
@@ -131,10 +123,12 @@ fn numbered(peers: &[Option<Peer>], index: usize) -> Result<Option<usize>, Event
 #[inline(always)]
 pub(crate) fn whose<S: Strangers>(
     roster: &Roster,
+    slots: &Intakes,
     strangers: &S,
     event: NodeEvent<'_>,
 ) -> Result<Option<usize>, EventFault>
-    requires { IsRoster roster.now }
+    requires roster { IsRoster roster.now }
+    requires owned { AreOwned (owners_of slots.now) roster.now.peers.items }
     ensures there { IfOk result (λ o. IfSome o (λ i. IsSome (peer_at roster.now.peers.items i))) }
     ensures concerned { IfOk result (λ o.
         IfSome o (Concerns (S.policy strangers.now) roster.now.peers.items event.entry)) }
@@ -145,7 +139,7 @@ pub(crate) fn whose<S: Strangers>(
     ensures misdirected { (f : EventFault) → IsMisdirected roster.now.peers.items event.entry f → result ≡ Err f }
 {
     match event {
-        NodeEvent::Start(index, conn) => match roster.holder(conn) {
+        NodeEvent::Start(index, conn) => match holder(roster, slots, conn) {
             Some(_) => Err(EventFault::Held),
             None => numbered(&roster.peers, index),
         },
@@ -154,8 +148,8 @@ pub(crate) fn whose<S: Strangers>(
         | NodeEvent::Tick(index)
         | NodeEvent::Submit(index, _) => numbered(&roster.peers, index),
         NodeEvent::Ack(conn) | NodeEvent::Nack(conn) | NodeEvent::Gone(conn) => {
-            Ok(roster.holder(conn))
+            Ok(holder(roster, slots, conn))
         }
-        NodeEvent::Arrived(conn, octets) => Ok(addressed(roster, strangers, conn, octets)),
+        NodeEvent::Arrived(conn, octets) => Ok(addressed(roster, slots, strangers, conn, octets)),
     }
 }

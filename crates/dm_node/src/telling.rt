@@ -1,7 +1,7 @@
 //! One neighbour of many is told an event.
 ghost use Rattle.std.specs.Prelude.{◌≡◌, ◌⊎◌, ℕ, true, Some, Err, IsSome, IfErr, OnOk, OnErr, All, []};
 ghost use Rattle.dm_machine.specs.declared.connection.Conn.{Conn};
-ghost use Rattle.dm_node.specs.Declining.{IsRuledOut, TakesNoMemory, IsDeclined, IsByRule, IsDeclinedHere};
+ghost use Rattle.dm_node.specs.Declining.{IsRuledOut, IsByRule};
 ghost use Rattle.dm_node.specs.Holding.{peer_at, holds_at, AreApart, AreUnlike};
 ghost use Rattle.dm_node.specs.Naming.{AreHostsNoted};
 ghost use Rattle.dm_node.specs.Policies.{Policy};
@@ -15,10 +15,9 @@ ghost use Rattle.dm_peer.specs.Spelled.{SendsSpelling};
 ghost use Rattle.dm_peer.specs.declared.fault.PeerFault.{PeerFault};
 ghost use Rattle.dm_peer.specs.declared.fault.PeerFault.TheVariants as peer_faults;
 
-use crate::owners::holding_at;
 use crate::roster::Roster;
 use crate::routing::told_of;
-use crate::{EventFault, NodeActions, NodeEvent};
+use crate::{Answer, EventFault, NodeEvent};
 use dm_machine::laws::each_opening_has_its_message;
 use dm_peer::laws::each_event_is_one_step;
 use dm_peer::{Actions, Event, Peer, PeerFault};
@@ -45,8 +44,6 @@ fn tell(
     ensures ruled { IfErr result (λ f. (f ≡ peer_faults.NoMemory)
         ⊎ IsRuledOut peers.old.items index (event_told event.entry) f) }
     ensures refuses { (f : PeerFault) → IsRuledOut peers.old.items index (event_told event.entry) f → result ≡ Err f }
-    ensures silent { TakesNoMemory peers.old.items index (event_told event.entry)
-        → IfErr result (IsDeclined peers.old.items index (event_told event.entry)) }
     ensures unchanged { OnErr result (peers.new.items ≡ peers.old.items) }
     ensures apart { AreApart peers.old.items → AreApart peers.new.items }
     ensures unlike { AreUnlike peers.old.items → AreUnlike peers.new.items }
@@ -72,7 +69,7 @@ pub(crate) fn tell_one_into(
     roster: &mut Roster,
     index: usize,
     event: NodeEvent<'_>,
-    answer: &mut NodeActions,
+    answer: &mut Answer,
 ) -> Result<(), EventFault>
     requires roster { IsRoster roster.old }
     requires there { IsSome (peer_at roster.old.peers.items index) }
@@ -88,18 +85,12 @@ pub(crate) fn tell_one_into(
         → IfErr result (IsByRule policy roster.old.peers.items event.entry) }
     ensures refuses { (f : PeerFault) → IsRuledOut roster.old.peers.items index (told_of event.entry) f
         → result ≡ Err (faults.Peer f) }
-    ensures silent { (policy : Policy) → Concerns policy roster.old.peers.items event.entry index
-        → TakesNoMemory roster.old.peers.items index (told_of event.entry)
-        → IfErr result (IsDeclinedHere policy roster.old.peers.items event.entry) }
     ensures unchanged { OnErr result (roster.new.peers.items ≡ roster.old.peers.items) }
     ensures roster { IsRoster roster.new }
 {
-    let before = holding_at(&roster.peers, index);
     let told = told_of(event);
     match tell(alloc, &mut roster.peers, index, told, &mut answer.actions) {
         Ok(()) => {
-            roster.owners.settle(&roster.peers, before, index);
-            roster.last = index;
             answer.neighbour = Some(index);
             Ok(())
         }

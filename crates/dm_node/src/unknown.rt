@@ -9,10 +9,11 @@ ghost use Rattle.dm_peer.specs.Spelled.{SendsSpelling};
 ghost use Rattle.dm_peer.specs.declared.fault.PeerFault.TheVariants as peer_faults;
 
 use crate::calling::answer_to;
+use crate::events::NodeActions;
 use crate::offering::offered;
 use crate::roster::Roster;
 use crate::welcoming::welcome;
-use crate::{EventFault, NodeActions, NodeEvent, Strangers};
+use crate::{Answer, EventFault, NodeEvent, Strangers};
 use arrayvec::ArrayVec;
 use dm_base::Node;
 use dm_peer::{Conn, PeerFault};
@@ -100,7 +101,7 @@ pub(crate) fn tell_unknown<S: Strangers>(
     roster: &mut Roster,
     strangers: &S,
     event: NodeEvent<'_>,
-    answer: &mut NodeActions,
+    answer: &mut Answer,
 ) -> Result<(), EventFault>
     requires roster { IsRoster roster.old }
     requires nobody { (i : ℕ) → Concerns (S.policy strangers.now) roster.old.peers.items event i → ⊥ }
@@ -113,7 +114,8 @@ pub(crate) fn tell_unknown<S: Strangers>(
 {
     match at_stranger(alloc, node, roster, strangers, event) {
         Ok(done) => {
-            *answer = done;
+            answer.neighbour = done.neighbour;
+            answer.actions = done.actions;
             Ok(())
         }
         Err(fault) => Err(fault),

@@ -14,15 +14,16 @@ ghost use Rattle.dm_peer.specs.Spelled.{SendsSpelling};
 ghost use Rattle.dm_peer.specs.declared.config.Config.{Config};
 ghost use Rattle.dm_peer.specs.declared.fault.PeerFault.TheVariants as peer_faults;
 
+use crate::EventFault;
+use crate::events::NodeActions;
 use crate::roster::Roster;
-use crate::{EventFault, NodeActions};
 use dm_machine::laws::each_opening_has_its_message;
 use dm_peer::laws::each_event_is_one_step;
 use dm_peer::{Actions, Config, Conn, Event, Peer, PeerFault, State};
 use std::alloc::Global;
 
 /// A peer that is no neighbour yet, and what it did at its first event.
-#[derive(Debug, Drop)]
+#[derive(Drop)]
 struct Met {
     peer: Peer,
     actions: Actions,

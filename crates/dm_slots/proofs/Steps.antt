@@ -7,12 +7,14 @@ use Rattle.dm_machine.specs.declared.connection.Conn.{Conn}
 use Rattle.dm_peer.specs.declared.actions.Action.{Action}
 use Rattle.dm_peer.specs.declared.actions.Action.TheVariants as action
 use Rattle.dm_slots.specs.declared.intake.Front.{Front}
+use Rattle.dm_slots.specs.declared.intakes.Slot.{Slot}
 use Rattle.dm_slots.specs.declared.intake.Front.TheVariants.{Nothing, Message, Fault}
 use Rattle.dm_slots.specs.Fronts.{IsFront, IsFrontAt}
 use Rattle.dm_slots.specs.Intakes.{Intake, Intakes, IsToldOut, actions_close, is_close_of, left_by, taken_down, raised_at, with_max}
+use Rattle.dm_slots.specs.Held.{Owners, disowned_by, closed_by}
 use Rattle.dm_slots.specs.Hearing.{IsWholeIn, IsNotWhole, IsWholeAt}
 
-both : (a b : Bool) (i : Option Intake) → cond b None (cond a None i) ≡ cond (a || b) None i
+both : {A : Type 0} (a b : Bool) (i : Option A) → cond b None (cond a None i) ≡ cond (a || b) None i
 both true true i = refl
 both true false i = refl
 both false true i = refl
@@ -22,6 +24,17 @@ both false false i = refl
 pub left_close : (d : Conn) (rest : List Action) (f : Intakes) →
     left_by rest (taken_down d.0 f) ≡ left_by (action.Close d ∷ rest) f
 left_close d rest f = fun_ext (λ c. both (nat_eq d.0 c) (actions_close rest c) (f c))
+
+-- what came on one connection changes
+pub intake_changed : (b : Bool) (s : Slot) (o : Option Slot) →
+    option_map (λ (x : Slot). x.intake) (cond b (Some s) o)
+    ≡ cond b (Some s.intake) (option_map (λ (x : Slot). x.intake) o)
+intake_changed true s o = refl
+intake_changed false s o = refl
+
+pub closed_first : (d : Conn) (rest : List Action) (f : Owners) →
+    closed_by rest (disowned_by (Some d) f) ≡ closed_by (action.Close d ∷ rest) f
+closed_first d rest f = fun_ext (λ c. both (nat_eq d.0 c) (actions_close rest c) (f c))
 
 -- what stands at the front of a connection that is there
 pub front_there : (o : Option Intake) (i : Intake) (f : Front) → Some i ≡ o → IsFront i f → IsFrontAt o f
@@ -54,6 +67,16 @@ pub left_on : (a : Action) (rest : List Action) (f : Intakes) →
 left_on a rest f = fun_ext (λ c. one (is_close_of c a) (actions_close rest c) (f c))
   where
     one : (a b : Bool) (i : Option Intake) → cond b None (cond (a || false) None i) ≡ cond (a || b) None i
+    one true true i = refl
+    one true false i = refl
+    one false true i = refl
+    one false false i = refl
+
+pub closed_on : (a : Action) (rest : List Action) (f : Owners) →
+    closed_by rest (closed_by (a ∷ []) f) ≡ closed_by (a ∷ rest) f
+closed_on a rest f = fun_ext (λ c. one (is_close_of c a) (actions_close rest c) (f c))
+  where
+    one : (a b : Bool) (i : Option ℕ) → cond b None (cond (a || false) None i) ≡ cond (a || b) None i
     one true true i = refl
     one true false i = refl
     one false true i = refl

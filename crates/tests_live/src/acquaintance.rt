@@ -1,7 +1,7 @@
 //! What a node knows of a neighbour, which comes again.
 
-use crate::session::{DWR_OF_B, R, alone, asked};
-use dm_node_session::{Acquaintance, Alone, NodeOrder, NodeSession};
+use crate::single::{DWR_OF_B, R, alone, asked};
+use dm_node::{Acquaintance, Alone, Answer, Node, NodeOrder, Told};
 use dm_peer::Conn;
 use std::process::Abort;
 
@@ -12,55 +12,57 @@ const CER_OF_7: &str =
 const CER_OF_8: &str =
     "0100007c800001010000000000000009000000090000010840000011622e6578616d706c65000000000001284000000f6578616d706c6500000001014000000e00017f00000100000000010a4000000c000000000000010d0000000e646d706565720000000001024000000c00000004000001164000000c00000008";
 
-/// How many turns are told of the piece that comes on the connection, one at most.
-fn told(
-    rt: &(impl Abort + AllocGlobal),
-    session: &mut NodeSession,
-    conn: Conn,
-    piece: &[u8],
-) -> usize {
-    let _kept = asked(rt, session, NodeOrder::Octets(conn, piece));
-    match session.next(rt.alloc(), &Alone, conn) {
-        Ok(Some(_)) => 1,
-        Ok(None) => 0,
-        Err(_) => 100,
+/// How many turns were told, one at most.
+fn turns(answer: &Answer) -> usize {
+    match answer.told {
+        Told::Nothing => 0,
+        _ => 1,
     }
+}
+
+/// How many turns are told of the piece that comes on the connection, one at most.
+fn told(rt: &(impl Abort + AllocGlobal), node: &mut Node, conn: Conn, piece: &[u8]) -> usize {
+    let _kept = asked(rt, node, NodeOrder::Octets(conn, piece));
+    let mut answer = Answer::new();
+    let told = match node.next(rt.alloc(), &Alone, conn, &mut answer) {
+        Ok(()) => turns(&answer),
+        Err(_) => 100,
+    };
+    drop(answer);
+    told
 }
 
 /// The digits come on the connection in halves: how many turns are told at each.
 fn told_in_halves(
     rt: &(impl Abort + AllocGlobal),
-    session: &mut NodeSession,
+    node: &mut Node,
     conn: Conn,
     digits: &str,
 ) -> (usize, usize) {
     let octets = hex::decode(rt.alloc(), digits.as_bytes()).expect(rt, "digits");
     let (front, back) = octets.as_slice().split_at(octets.len() / 2);
-    let first = told(rt, session, conn, front);
-    let second = told(rt, session, conn, back);
+    let first = told(rt, node, conn, front);
+    let second = told(rt, node, conn, back);
     drop(octets);
     (first, second)
 }
 
 /// The Origin-State-Id, the one before, and whether the other side has begun anew.
-fn states(session: &NodeSession) -> Option<(Option<u32>, Option<u32>, bool)> {
-    match session.known(0) {
+fn states(node: &Node) -> Option<(Option<u32>, Option<u32>, bool)> {
+    match node.known(0) {
         Some(known) => Some((known.state(), known.state_before(), known.is_anew())),
         None => None,
     }
 }
 
 /// The Origin-State-Id that is known.
-fn state(session: &NodeSession) -> Option<u32> {
-    session.known(0).and_then(Acquaintance::state)
+fn state(node: &Node) -> Option<u32> {
+    node.known(0).and_then(Acquaintance::state)
 }
 
 /// Of whom is known: how many octets the host and the realm have, and the first application.
-fn said(
-    rt: &(impl Abort + AllocGlobal),
-    session: &NodeSession,
-) -> Option<(usize, usize, Option<u32>)> {
-    match session.known(0).and_then(Acquaintance::sender) {
+fn said(rt: &(impl Abort + AllocGlobal), node: &Node) -> Option<(usize, usize, Option<u32>)> {
+    match node.known(0).and_then(Acquaintance::sender) {
         Some(sender) => match sender.applications(rt.alloc()) {
             Ok(ids) => {
                 let first = match ids.as_slice() {
@@ -85,13 +87,13 @@ fn met_once(
     (usize, usize),
     Option<(Option<u32>, Option<u32>, bool)>,
 ) {
-    let mut session = alone(rt);
-    let _none = asked(rt, &mut session, NodeOrder::Accept(R));
-    let opened = told_in_halves(rt, &mut session, R, CER_OF_7);
-    let watched = told_in_halves(rt, &mut session, R, DWR_OF_B);
-    let found = said(rt, &session);
-    let states = states(&session);
-    drop(session);
+    let mut node = alone(rt);
+    let _none = asked(rt, &mut node, NodeOrder::Accept(R));
+    let opened = told_in_halves(rt, &mut node, R, CER_OF_7);
+    let watched = told_in_halves(rt, &mut node, R, DWR_OF_B);
+    let found = said(rt, &node);
+    let states = states(&node);
+    drop(node);
     (opened, found, watched, states)
 }
 
@@ -100,14 +102,14 @@ fn met_again(
     rt: &(impl Abort + AllocGlobal),
     digits: &str,
 ) -> Option<(Option<u32>, Option<u32>, bool)> {
-    let mut session = alone(rt);
-    let _none = asked(rt, &mut session, NodeOrder::Accept(R));
-    let _opened = told_in_halves(rt, &mut session, R, CER_OF_7);
-    let _gone = asked(rt, &mut session, NodeOrder::Gone(R));
-    let _again = asked(rt, &mut session, NodeOrder::Accept(Conn(10)));
-    let _opened_again = told_in_halves(rt, &mut session, Conn(10), digits);
-    let states = states(&session);
-    drop(session);
+    let mut node = alone(rt);
+    let _none = asked(rt, &mut node, NodeOrder::Accept(R));
+    let _opened = told_in_halves(rt, &mut node, R, CER_OF_7);
+    let _gone = asked(rt, &mut node, NodeOrder::Gone(R));
+    let _again = asked(rt, &mut node, NodeOrder::Accept(Conn(10)));
+    let _opened_again = told_in_halves(rt, &mut node, Conn(10), digits);
+    let states = states(&node);
+    drop(node);
     states
 }
 
@@ -116,32 +118,34 @@ fn met_again(
 fn met_at_nack(
     rt: &(impl Abort + AllocGlobal),
 ) -> ((usize, usize), Option<u32>, Option<u32>, Option<u32>) {
-    let mut session = alone(rt);
+    let mut node = alone(rt);
     let own = Conn(0);
-    let _asked = asked(rt, &mut session, NodeOrder::Start(0, own));
-    let _none = asked(rt, &mut session, NodeOrder::Accept(R));
-    let crossed = told_in_halves(rt, &mut session, R, CER_OF_7);
-    let waiting = state(&session);
-    let _actions = asked(rt, &mut session, NodeOrder::Nack(own));
-    let met = state(&session);
-    let _refused = asked(rt, &mut session, NodeOrder::Start(0, Conn(1)));
-    let later = state(&session);
-    drop(session);
+    let _asked = asked(rt, &mut node, NodeOrder::Start(0, own));
+    let _none = asked(rt, &mut node, NodeOrder::Accept(R));
+    let crossed = told_in_halves(rt, &mut node, R, CER_OF_7);
+    let waiting = state(&node);
+    let _actions = asked(rt, &mut node, NodeOrder::Nack(own));
+    let met = state(&node);
+    let _refused = asked(rt, &mut node, NodeOrder::Start(0, Conn(1)));
+    let later = state(&node);
+    drop(node);
     (crossed, waiting, met, later)
 }
 
 /// How many octets of a CER are told where it lies, and the Origin-State-Id that is known then.
 fn met_in_place(rt: &(impl Abort + AllocGlobal)) -> (Option<usize>, Option<u32>) {
-    let mut session = alone(rt);
-    let _none = asked(rt, &mut session, NodeOrder::Accept(R));
+    let mut node = alone(rt);
+    let _none = asked(rt, &mut node, NodeOrder::Accept(R));
     let octets = hex::decode(rt.alloc(), CER_OF_8.as_bytes()).expect(rt, "digits");
-    let told = match session.hear(rt.alloc(), &Alone, R, octets.as_slice()) {
-        Ok(Some(heard)) => Some(heard.len),
-        _ => None,
+    let mut answer = Answer::new();
+    let told = match node.hear(rt.alloc(), &Alone, R, octets.as_slice(), &mut answer) {
+        Ok(length) => length,
+        Err(_) => None,
     };
+    drop(answer);
     drop(octets);
-    let state = state(&session);
-    drop(session);
+    let state = state(&node);
+    drop(node);
     (told, state)
 }
 

@@ -1,4 +1,4 @@
-//! Tests of sessions: orders in turn, and how many actions each turn asks for; orders in lines.
+//! Tests of nodes: orders in turn, and how many actions each turn asks for; orders in lines.
 #![tactic(auto)]
 
 #[cfg(test)]
@@ -12,4 +12,4 @@ mod nodes;
 #[cfg(test)]
 mod room;
 #[cfg(test)]
-mod session;
+mod single;

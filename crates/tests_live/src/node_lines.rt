@@ -1,8 +1,8 @@
-//! Orders to a node in lines, answered over its session.
+//! Orders to a node in lines, answered over it.
 
 use crate::nodes::three;
 use dm_live::{Form, answer_order, read_order};
-use dm_node_session::NodeSession;
+use dm_node::{Answer, Node};
 use std::process::Abort;
 
 /// The CER of c.example, of application 4, with number 9.
@@ -15,32 +15,37 @@ const ANSWERS: &str =
     "neighbour 2\nconnect 7\nstate 2 Wait-Conn-Ack i7\nneighbour 1\narrived 9\nsend 9 0100007c000001010000000000000009000000090000010c4000000c000007d10000010840000011612e6578616d706c65000000000001284000000f6578616d706c6500000001014000000e00017f00000100000000010a4000000c000000000000010d0000000e646d6c6976650000000001024000000c00000004\nstate 1 R-Open r9\nneighbour 0\nrefused NotOpen\nstate 0 Closed\nrefused NoNeighbour\nneighbour 2\nstate 2 Closed\n";
 
 /// Answers the line, where it tells an order to a node.
-fn answer(
-    rt: &(impl Abort + AllocGlobal),
-    session: &mut NodeSession,
-    line: &str,
-    text: &mut String,
-) {
+fn answer(rt: &(impl Abort + AllocGlobal), node: &mut Node, line: &str, text: &mut String) {
     if let Some(order) = read_order(rt.alloc(), Form::Several, line.as_bytes()).expect(
         rt, "memory",
     ) {
-        answer_order(rt.alloc(), Form::Several, session, order.order(), text).expect(rt, "memory");
+        let mut lent = Answer::new();
+        let done = answer_order(
+            rt.alloc(),
+            Form::Several,
+            node,
+            order.order(),
+            &mut lent,
+            text,
+        );
+        drop(lent);
+        done.expect(rt, "memory");
     }
 }
 
 /// Whether the lines are answered as they should be.
 fn are_answered(rt: &(impl Abort + AllocGlobal)) -> bool {
-    let mut session = three(rt);
+    let mut node = three(rt);
     let mut text = String::new(rt.alloc());
-    answer(rt, &mut session, "start 2 7", &mut text);
-    answer(rt, &mut session, "accept 9", &mut text);
-    answer(rt, &mut session, OCTETS, &mut text);
-    answer(rt, &mut session, "stop 0 2", &mut text);
-    answer(rt, &mut session, "tick 3", &mut text);
-    answer(rt, &mut session, "nack 7", &mut text);
+    answer(rt, &mut node, "start 2 7", &mut text);
+    answer(rt, &mut node, "accept 9", &mut text);
+    answer(rt, &mut node, OCTETS, &mut text);
+    answer(rt, &mut node, "stop 0 2", &mut text);
+    answer(rt, &mut node, "tick 3", &mut text);
+    answer(rt, &mut node, "nack 7", &mut text);
     let same = text.as_str() == ANSWERS;
     drop(text);
-    drop(session);
+    drop(node);
     same
 }
 

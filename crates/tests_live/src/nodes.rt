@@ -1,100 +1,120 @@
 //! A node of three neighbours with its connections.
 
-use crate::session::{CER_OF_B, DWR_OF_B, config, node};
-use dm_node_session::{Conn, EventFault, NodeOrder, NodeSession, Open, Strangers};
+use crate::single::{CER_OF_B, DWR_OF_B, config, node};
+use dm_node::{Answer, Conn, EventFault, Node, NodeOrder, Open, Strangers, Told};
 use dm_peer::State;
 use std::process::Abort;
 
 /// Adds a neighbour of this host.
-fn add(rt: &(impl Abort + AllocGlobal), session: &mut NodeSession, host: &[u8]) {
+fn add(rt: &(impl Abort + AllocGlobal), node: &mut Node, host: &[u8]) {
     let config = config(rt, host);
-    let _number = session.add(config).expect(rt, "a number");
+    let _number = node.add(config).expect(rt, "a number");
 }
 
 /// The node a.example with the neighbours b.example, c.example and d.example.
-pub(crate) fn three(rt: &(impl Abort + AllocGlobal)) -> NodeSession {
-    let mut session = NodeSession::new(rt.alloc(), node(rt), 1000, 16_777_212);
-    add(rt, &mut session, b"b.example");
-    add(rt, &mut session, b"c.example");
-    add(rt, &mut session, b"d.example");
-    session
+pub(crate) fn three(rt: &(impl Abort + AllocGlobal)) -> Node {
+    let mut node = Node::new(rt.alloc(), node(rt), 1000, 16_777_212);
+    add(rt, &mut node, b"b.example");
+    add(rt, &mut node, b"c.example");
+    add(rt, &mut node, b"d.example");
+    node
+}
+
+/// The neighbour that was told something, and how many actions are asked for; None where nothing was told.
+fn done(answer: &Answer) -> Option<(Option<usize>, usize)> {
+    match answer.told {
+        Told::Nothing => None,
+        _ => Some((answer.neighbour, answer.actions.len())),
+    }
 }
 
 /// The neighbour of which the order asks something, and how many actions; None where no event is told.
 fn asked(
     rt: &(impl Abort + AllocGlobal),
-    session: &mut NodeSession,
+    node: &mut Node,
     order: NodeOrder<'_>,
 ) -> Option<(Option<usize>, usize)> {
-    match session.take(rt.alloc(), order) {
-        Ok(Some(answer)) => Some((answer.neighbour, answer.actions.len())),
-        Ok(None) => None,
+    let mut answer = Answer::new();
+    let asked = match node.order(rt.alloc(), order, &mut answer) {
+        Ok(()) => done(&answer),
         Err(EventFault::NoNeighbour) => Some((None, 50)),
         Err(_) => Some((None, 100)),
-    }
+    };
+    drop(answer);
+    asked
 }
 
 /// Of the next turn of the connection, by the policy, the neighbour, and how many actions it asks for.
 fn turn(
     rt: &(impl Abort + AllocGlobal),
-    session: &mut NodeSession,
+    node: &mut Node,
     strangers: &impl Strangers,
     conn: Conn,
 ) -> Option<(Option<usize>, usize)> {
-    match session.next(rt.alloc(), strangers, conn) {
-        Ok(Some(turn)) => Some((turn.answer.neighbour, turn.answer.actions.len())),
-        Ok(None) => None,
+    let mut answer = Answer::new();
+    let turn = match node.next(rt.alloc(), strangers, conn, &mut answer) {
+        Ok(()) => done(&answer),
         Err(_) => Some((None, 100)),
-    }
+    };
+    drop(answer);
+    turn
+}
+
+/// Of a message on the connection that is told where it lies, by the policy, how many octets are told, the neighbour,
+/// and how many actions it asks for.
+fn told_in_place(
+    rt: &(impl Abort + AllocGlobal),
+    node: &mut Node,
+    strangers: &impl Strangers,
+    conn: Conn,
+    octets: &[u8],
+) -> Option<(usize, Option<usize>, usize)> {
+    let mut answer = Answer::new();
+    let told = match node.hear(rt.alloc(), strangers, conn, octets, &mut answer) {
+        Ok(Some(length)) => Some((length, answer.neighbour, answer.actions.len())),
+        Ok(None) => None,
+        Err(_) => Some((0, None, 100)),
+    };
+    drop(answer);
+    told
 }
 
 /// The message comes on the connection, where it names b.example from the host with this letter.
-fn came(
-    rt: &(impl Abort + AllocGlobal),
-    session: &mut NodeSession,
-    conn: Conn,
-    digits: &str,
-    letter: u8,
-) {
+fn came(rt: &(impl Abort + AllocGlobal), node: &mut Node, conn: Conn, digits: &str, letter: u8) {
     let mut octets = hex::decode(rt.alloc(), digits.as_bytes()).expect(rt, "digits");
     if let Some(octet) = octets.get_mut(28) {
         *octet = letter;
     }
-    let _kept = asked(rt, session, NodeOrder::Octets(conn, octets.as_slice()));
+    let _kept = asked(rt, node, NodeOrder::Octets(conn, octets.as_slice()));
     drop(octets);
 }
 
 /// The same, and what is told of it.
 fn told(
     rt: &(impl Abort + AllocGlobal),
-    session: &mut NodeSession,
+    node: &mut Node,
     conn: Conn,
     digits: &str,
     letter: u8,
 ) -> Option<(Option<usize>, usize)> {
-    came(rt, session, conn, digits, letter);
-    turn(rt, session, &(), conn)
+    came(rt, node, conn, digits, letter);
+    turn(rt, node, &(), conn)
 }
 
 /// The host with this letter makes a connection and says who it is: what is told of it.
 fn called(
     rt: &(impl Abort + AllocGlobal),
-    session: &mut NodeSession,
+    node: &mut Node,
     conn: Conn,
     letter: u8,
 ) -> Option<(Option<usize>, usize)> {
-    let _none = asked(rt, session, NodeOrder::Accept(conn));
-    told(rt, session, conn, CER_OF_B, letter)
+    let _none = asked(rt, node, NodeOrder::Accept(conn));
+    told(rt, node, conn, CER_OF_B, letter)
 }
 
 /// The states of the three neighbours.
-fn states(session: &NodeSession) -> (Option<State>, Option<State>, Option<State>) {
-    let neighbours = session.neighbours();
-    (
-        neighbours.state_of(0),
-        neighbours.state_of(1),
-        neighbours.state_of(2),
-    )
+fn states(node: &Node) -> (Option<State>, Option<State>, Option<State>) {
+    (node.state_of(0), node.state_of(1), node.state_of(2))
 }
 
 /// Two call, a third is called, and the first is lost: what each comes to, the states, and what c.example says then.
@@ -105,14 +125,14 @@ fn apart(
     (Option<State>, Option<State>, Option<State>),
     Option<(Option<usize>, usize)>,
 ) {
-    let mut session = three(rt);
-    let _first = called(rt, &mut session, Conn(1), b'b');
-    let _second = called(rt, &mut session, Conn(2), b'c');
-    let _third = asked(rt, &mut session, NodeOrder::Start(2, Conn(3)));
-    let lost = asked(rt, &mut session, NodeOrder::Gone(Conn(1)));
-    let states = states(&session);
-    let watched = told(rt, &mut session, Conn(2), DWR_OF_B, b'c');
-    drop(session);
+    let mut node = three(rt);
+    let _first = called(rt, &mut node, Conn(1), b'b');
+    let _second = called(rt, &mut node, Conn(2), b'c');
+    let _third = asked(rt, &mut node, NodeOrder::Start(2, Conn(3)));
+    let lost = asked(rt, &mut node, NodeOrder::Gone(Conn(1)));
+    let states = states(&node);
+    let watched = told(rt, &mut node, Conn(2), DWR_OF_B, b'c');
+    drop(node);
     (lost, states, watched)
 }
 
@@ -124,35 +144,27 @@ fn crossed(
     Option<(Option<usize>, usize)>,
     (Option<State>, Option<State>, Option<State>),
 ) {
-    let mut session = three(rt);
-    let _asked = asked(rt, &mut session, NodeOrder::Start(0, Conn(1)));
-    let made = asked(rt, &mut session, NodeOrder::Ack(Conn(1)));
-    let came = called(rt, &mut session, Conn(2), b'b');
-    let states = states(&session);
-    drop(session);
+    let mut node = three(rt);
+    let _asked = asked(rt, &mut node, NodeOrder::Start(0, Conn(1)));
+    let made = asked(rt, &mut node, NodeOrder::Ack(Conn(1)));
+    let came = called(rt, &mut node, Conn(2), b'b');
+    let states = states(&node);
+    drop(node);
     (made, came, states)
 }
 
 /// Of a CER that is told where it lies, of the host with this letter, how many octets are told, the neighbour, and how
 /// many actions it asks for.
 fn heard(rt: &(impl Abort + AllocGlobal), letter: u8) -> Option<(usize, Option<usize>, usize)> {
-    let mut session = three(rt);
-    let _none = asked(rt, &mut session, NodeOrder::Accept(Conn(1)));
+    let mut node = three(rt);
+    let _none = asked(rt, &mut node, NodeOrder::Accept(Conn(1)));
     let mut octets = hex::decode(rt.alloc(), CER_OF_B.as_bytes()).expect(rt, "digits");
     if let Some(octet) = octets.get_mut(28) {
         *octet = letter;
     }
-    let told = match session.hear(rt.alloc(), &(), Conn(1), octets.as_slice()) {
-        Ok(Some(heard)) => Some((
-            heard.len,
-            heard.turn.answer.neighbour,
-            heard.turn.answer.actions.len(),
-        )),
-        Ok(None) => None,
-        Err(_) => Some((0, None, 100)),
-    };
+    let told = told_in_place(rt, &mut node, &(), Conn(1), octets.as_slice());
     drop(octets);
-    drop(session);
+    drop(node);
     told
 }
 
@@ -173,38 +185,38 @@ fn stream(rt: &(impl Abort + AllocGlobal)) -> Vec<u8> {
 
 /// The stream comes in two pieces, cut behind so many octets: two turns behind each.
 fn cut(rt: &(impl Abort + AllocGlobal), at: usize) -> [Option<(Option<usize>, usize)>; 4] {
-    let mut session = three(rt);
+    let mut node = three(rt);
     let octets = stream(rt);
     let (piece, more) = octets
         .as_slice()
         .split_at_checked(at)
         .expect(rt, "two pieces");
-    let _none = asked(rt, &mut session, NodeOrder::Accept(Conn(1)));
-    let _kept = asked(rt, &mut session, NodeOrder::Octets(Conn(1), piece));
-    let first = turn(rt, &mut session, &(), Conn(1));
-    let second = turn(rt, &mut session, &(), Conn(1));
-    let _kept = asked(rt, &mut session, NodeOrder::Octets(Conn(1), more));
-    let third = turn(rt, &mut session, &(), Conn(1));
-    let fourth = turn(rt, &mut session, &(), Conn(1));
+    let _none = asked(rt, &mut node, NodeOrder::Accept(Conn(1)));
+    let _kept = asked(rt, &mut node, NodeOrder::Octets(Conn(1), piece));
+    let first = turn(rt, &mut node, &(), Conn(1));
+    let second = turn(rt, &mut node, &(), Conn(1));
+    let _kept = asked(rt, &mut node, NodeOrder::Octets(Conn(1), more));
+    let third = turn(rt, &mut node, &(), Conn(1));
+    let fourth = turn(rt, &mut node, &(), Conn(1));
     drop(octets);
-    drop(session);
+    drop(node);
     [first, second, third, fourth]
 }
 
 /// Of such a CER that is kept first, the neighbour, and how many actions it asks for.
 fn kept(rt: &(impl Abort + AllocGlobal), letter: u8) -> Option<(Option<usize>, usize)> {
-    let mut session = three(rt);
-    let told = called(rt, &mut session, Conn(1), letter);
-    drop(session);
+    let mut node = three(rt);
+    let told = called(rt, &mut node, Conn(1), letter);
+    drop(node);
     told
 }
 
 /// What a stranger comes to, and whether his connection is there then.
 fn strange(rt: &(impl Abort + AllocGlobal)) -> (Option<(Option<usize>, usize)>, bool) {
-    let mut session = three(rt);
-    let came = called(rt, &mut session, Conn(1), b'z');
-    let is_there = session.has(Conn(1));
-    drop(session);
+    let mut node = three(rt);
+    let came = called(rt, &mut node, Conn(1), b'z');
+    let is_there = node.has(Conn(1));
+    drop(node);
     (came, is_there)
 }
 
@@ -215,15 +227,15 @@ fn permitted(
     most: usize,
     letter: u8,
 ) -> (Option<(Option<usize>, usize)>, Option<State>, bool) {
-    let mut session = three(rt);
+    let mut node = three(rt);
     let policy = Open::new(config(rt, b"b.example"), most);
-    let _none = asked(rt, &mut session, NodeOrder::Accept(Conn(1)));
-    came(rt, &mut session, Conn(1), CER_OF_B, letter);
-    let turn = turn(rt, &mut session, &policy, Conn(1));
-    let state = session.neighbours().state_of(3);
-    let is_there = session.has(Conn(1));
+    let _none = asked(rt, &mut node, NodeOrder::Accept(Conn(1)));
+    came(rt, &mut node, Conn(1), CER_OF_B, letter);
+    let turn = turn(rt, &mut node, &policy, Conn(1));
+    let state = node.state_of(3);
+    let is_there = node.has(Conn(1));
     drop(policy);
-    drop(session);
+    drop(node);
     (turn, state, is_there)
 }
 
@@ -233,26 +245,18 @@ fn permitted_in_place(
     most: usize,
     letter: u8,
 ) -> (Option<(usize, Option<usize>, usize)>, Option<State>) {
-    let mut session = three(rt);
+    let mut node = three(rt);
     let policy = Open::new(config(rt, b"b.example"), most);
-    let _none = asked(rt, &mut session, NodeOrder::Accept(Conn(1)));
+    let _none = asked(rt, &mut node, NodeOrder::Accept(Conn(1)));
     let mut octets = hex::decode(rt.alloc(), CER_OF_B.as_bytes()).expect(rt, "digits");
     if let Some(octet) = octets.get_mut(28) {
         *octet = letter;
     }
-    let told = match session.hear(rt.alloc(), &policy, Conn(1), octets.as_slice()) {
-        Ok(Some(heard)) => Some((
-            heard.len,
-            heard.turn.answer.neighbour,
-            heard.turn.answer.actions.len(),
-        )),
-        Ok(None) => None,
-        Err(_) => Some((0, None, 100)),
-    };
-    let state = session.neighbours().state_of(3);
+    let told = told_in_place(rt, &mut node, &policy, Conn(1), octets.as_slice());
+    let state = node.state_of(3);
     drop(octets);
     drop(policy);
-    drop(session);
+    drop(node);
     (told, state)
 }
 
@@ -264,23 +268,23 @@ fn broken(
     Option<(Option<usize>, usize)>,
     Option<State>,
 ) {
-    let mut session = three(rt);
+    let mut node = three(rt);
     let policy = Open::new(config(rt, b"b.example"), 4);
-    let _none = asked(rt, &mut session, NodeOrder::Accept(Conn(1)));
-    came(rt, &mut session, Conn(1), CER_OF_B, b'z');
-    let _taken = turn(rt, &mut session, &policy, Conn(1));
-    came(rt, &mut session, Conn(1), "02000014", 0);
-    let fault = turn(rt, &mut session, &policy, Conn(1));
-    let behind = turn(rt, &mut session, &policy, Conn(1));
-    let state = session.neighbours().state_of(3);
+    let _none = asked(rt, &mut node, NodeOrder::Accept(Conn(1)));
+    came(rt, &mut node, Conn(1), CER_OF_B, b'z');
+    let _taken = turn(rt, &mut node, &policy, Conn(1));
+    came(rt, &mut node, Conn(1), "02000014", 0);
+    let fault = turn(rt, &mut node, &policy, Conn(1));
+    let behind = turn(rt, &mut node, &policy, Conn(1));
+    let state = node.state_of(3);
     drop(policy);
-    drop(session);
+    drop(node);
     (fault, behind, state)
 }
 
 /// How many octets the host has that the neighbour of the number met, if there is one and it met anybody.
-pub(crate) fn host_met(session: &NodeSession, index: usize) -> Option<usize> {
-    match session.known(index) {
+pub(crate) fn host_met(node: &Node, index: usize) -> Option<usize> {
+    match node.known(index) {
         Some(known) => match known.sender() {
             Some(sender) => Some(sender.host().len()),
             None => None,
@@ -291,37 +295,37 @@ pub(crate) fn host_met(session: &NodeSession, index: usize) -> Option<usize> {
 
 /// Two call, and a host that is taken in, and the first of them is removed: the octets of each host that was met.
 fn known(rt: &(impl Abort + AllocGlobal)) -> [Option<usize>; 4] {
-    let mut session = three(rt);
+    let mut node = three(rt);
     let policy = Open::new(config(rt, b"b.example"), 4);
-    let _first = called(rt, &mut session, Conn(1), b'b');
-    let _second = called(rt, &mut session, Conn(2), b'c');
-    let _none = asked(rt, &mut session, NodeOrder::Accept(Conn(3)));
-    came(rt, &mut session, Conn(3), CER_OF_B, b'z');
-    let _taken = turn(rt, &mut session, &policy, Conn(3));
-    drop(session.remove(0));
+    let _first = called(rt, &mut node, Conn(1), b'b');
+    let _second = called(rt, &mut node, Conn(2), b'c');
+    let _none = asked(rt, &mut node, NodeOrder::Accept(Conn(3)));
+    came(rt, &mut node, Conn(3), CER_OF_B, b'z');
+    let _taken = turn(rt, &mut node, &policy, Conn(3));
+    drop(node.remove(0));
     let hosts = [
-        host_met(&session, 0),
-        host_met(&session, 1),
-        host_met(&session, 2),
-        host_met(&session, 3),
+        host_met(&node, 0),
+        host_met(&node, 1),
+        host_met(&node, 2),
+        host_met(&node, 3),
     ];
     drop(policy);
-    drop(session);
+    drop(node);
     hosts
 }
 
 /// How much is closed where b.example goes that called, whether its connection is there then, and whether that of
 /// c.example is.
 fn removed(rt: &(impl Abort + AllocGlobal)) -> (Option<usize>, bool, bool) {
-    let mut session = three(rt);
-    let _first = called(rt, &mut session, Conn(1), b'b');
-    let _second = called(rt, &mut session, Conn(2), b'c');
-    let closed = match session.remove(0) {
+    let mut node = three(rt);
+    let _first = called(rt, &mut node, Conn(1), b'b');
+    let _second = called(rt, &mut node, Conn(2), b'c');
+    let closed = match node.remove(0) {
         Some(actions) => Some(actions.len()),
         None => None,
     };
-    let left = (session.has(Conn(1)), session.has(Conn(2)));
-    drop(session);
+    let left = (node.has(Conn(1)), node.has(Conn(2)));
+    drop(node);
     (closed, left.0, left.1)
 }
 
@@ -334,14 +338,14 @@ fn misled(
     Option<State>,
     bool,
 ) {
-    let mut session = three(rt);
-    let _first = called(rt, &mut session, Conn(1), b'b');
-    let in_use = asked(rt, &mut session, NodeOrder::Start(1, Conn(1)));
-    let nobody = asked(rt, &mut session, NodeOrder::Tick(7));
-    let _none = asked(rt, &mut session, NodeOrder::ResetAll);
-    let state = session.neighbours().state_of(0);
-    let is_there = session.has(Conn(1));
-    drop(session);
+    let mut node = three(rt);
+    let _first = called(rt, &mut node, Conn(1), b'b');
+    let in_use = asked(rt, &mut node, NodeOrder::Start(1, Conn(1)));
+    let nobody = asked(rt, &mut node, NodeOrder::Tick(7));
+    let _none = asked(rt, &mut node, NodeOrder::ResetAll);
+    let state = node.state_of(0);
+    let is_there = node.has(Conn(1));
+    drop(node);
     (in_use, nobody, state, is_there)
 }
 

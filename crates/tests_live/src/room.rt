@@ -1,7 +1,7 @@
 //! The room that an answer takes: that of the same text appended a piece after the other, so at most twice its octets.
-use crate::session::{CER_OF_B, alone};
+use crate::single::{CER_OF_B, alone};
 use dm_live::{Form, answer_order, read_order};
-use dm_node_session::NodeSession;
+use dm_node::{Answer, Node};
 use dm_text::Hexadecimal;
 use std::process::Abort;
 
@@ -21,27 +21,27 @@ fn request(rt: &(impl Abort + AllocGlobal), size: u32) -> Vec<u8> {
 }
 
 /// Appends the answer to the line, which tells an order.
-fn answer(
-    rt: &(impl Abort + AllocGlobal),
-    session: &mut NodeSession,
-    line: &str,
-    text: &mut String,
-) {
+fn answer(rt: &(impl Abort + AllocGlobal), node: &mut Node, line: &str, text: &mut String) {
     if let Some(order) = read_order(rt.alloc(), Form::Alone, line.as_bytes()).expect(rt, "memory") {
-        answer_order(rt.alloc(), Form::Alone, session, order.order(), text).expect(rt, "memory");
+        let mut lent = Answer::new();
+        let done = answer_order(
+            rt.alloc(),
+            Form::Alone,
+            node,
+            order.order(),
+            &mut lent,
+            text,
+        );
+        drop(lent);
+        done.expect(rt, "memory");
     }
 }
 
 /// What is answered to the order of this name with the octets.
-fn answered(
-    rt: &(impl Abort + AllocGlobal),
-    session: &mut NodeSession,
-    name: &str,
-    octets: &[u8],
-) -> String {
+fn answered(rt: &(impl Abort + AllocGlobal), node: &mut Node, name: &str, octets: &[u8]) -> String {
     let line = format!(in rt.alloc(); "{name} {}", Hexadecimal(octets)).expect(rt, "memory");
     let mut text = String::new(rt.alloc());
-    answer(rt, session, line.as_str(), &mut text);
+    answer(rt, node, line.as_str(), &mut text);
     drop(line);
     text
 }
@@ -72,37 +72,37 @@ fn are_alike(one: String, other: String) -> bool {
 }
 
 /// Whether a request of so many octets that comes, and one that is submitted, are answered in that room.
-fn is_roomy(rt: &(impl Abort + AllocGlobal), session: &mut NodeSession, size: u32) -> bool {
+fn is_roomy(rt: &(impl Abort + AllocGlobal), node: &mut Node, size: u32) -> bool {
     let octets = request(rt, size);
-    let came = answered(rt, session, "octets 9", octets.as_slice());
+    let came = answered(rt, node, "octets 9", octets.as_slice());
     let up = are_alike(came, handed_up(rt, octets.as_slice()));
-    let submitted = answered(rt, session, "submit", octets.as_slice());
+    let submitted = answered(rt, node, "submit", octets.as_slice());
     let out = are_alike(submitted, sent(rt, octets.as_slice()));
     drop(octets);
     up && out
 }
 
 /// A node whose one neighbour has opened connection 9.
-fn opened(rt: &(impl Abort + AllocGlobal)) -> NodeSession {
-    let mut session = alone(rt);
+fn opened(rt: &(impl Abort + AllocGlobal)) -> Node {
+    let mut node = alone(rt);
     let mut text = String::new(rt.alloc());
-    answer(rt, &mut session, "accept 9", &mut text);
+    answer(rt, &mut node, "accept 9", &mut text);
     let cer = format!(in rt.alloc(); "octets 9 {CER_OF_B}").expect(rt, "memory");
-    answer(rt, &mut session, cer.as_str(), &mut text);
+    answer(rt, &mut node, cer.as_str(), &mut text);
     drop(cer);
     drop(text);
-    session
+    node
 }
 
 /// Sizes on both sides of six doublings.
 #[test]
 fn answers_take_the_room_of_their_pieces(rt: HostRuntime) {
-    let mut session = opened(&rt);
+    let mut node = opened(&rt);
     for words in 7..600 {
         assert!(rt;
-            is_roomy(&rt, &mut session, 4 * words),
+            is_roomy(&rt, &mut node, 4 * words),
             "of {words} times four octets"
         );
     }
-    drop(session);
+    drop(node);
 }

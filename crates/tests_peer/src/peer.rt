@@ -5,6 +5,7 @@ mod comparing;
 mod examples;
 mod histories;
 mod neighbours;
+mod nodes;
 mod octets;
 mod own_rules;
 mod porter;

@@ -10,6 +10,8 @@ mod each;
 #[cfg(test)]
 mod neighbours;
 #[cfg(test)]
+mod nodes;
+#[cfg(test)]
 mod peers;
 #[cfg(test)]
 mod quiet;
@@ -19,8 +21,6 @@ mod rows;
 mod runs;
 #[cfg(test)]
 mod scripts;
-#[cfg(test)]
-mod sessions;
 #[cfg(test)]
 mod unknown;
 #[cfg(test)]

@@ -2,7 +2,7 @@
 use crate::each::each;
 use crate::peers::{config, node};
 use crate::rows::CER_OF_B;
-use dm_node_session::{HeardNodeTurn, NodeOrder, NodeSession, Open, Strangers};
+use dm_node::{Answer, Node, NodeOrder, Open, Strangers};
 use dm_peer::{Config, Conn, State};
 use dm_refusal::{End, Subject, answered, refuse, repeated, was_refused};
 use std::alloc::{AllocError, Global};
@@ -35,45 +35,44 @@ impl Strangers for Permits {
 /// The connection on which the host calls.
 const CONN: Conn = Conn(9);
 
-/// What comes of the CER.
-type Heard = Result<Option<HeardNodeTurn>, AllocError>;
+/// How many octets are told where they lie of what comes on the connection.
+type Heard = Result<Option<usize>, AllocError>;
 
 /// Whether the host was taken in, and is open.
-fn is_taken(session: &NodeSession, heard: &Heard) -> bool {
+fn is_taken(node: &Node, heard: &Heard, answer: &Answer) -> bool {
     match heard {
-        Ok(Some(heard)) => {
-            heard.turn.answer.neighbour == Some(0)
-                && heard.turn.answer.actions.len() == 1
-                && session.neighbours().find(b"b.example") == Some(0)
-                && session.neighbours().state_of(0) == Some(State::ROpen)
+        Ok(Some(_)) => {
+            answer.neighbour == Some(0)
+                && answer.actions.len() == 1
+                && node.find(b"b.example") == Some(0)
+                && node.state_of(0) == Some(State::ROpen)
         }
         Ok(None) | Err(_) => false,
     }
 }
 
-fn is_empty(session: &NodeSession) -> bool {
-    session.neighbours().iter().len() == 0
-        && session.neighbours().find(b"b.example").is_none()
-        && session.has(CONN)
+fn is_empty(node: &Node) -> bool {
+    node.iter().len() == 0 && node.find(b"b.example").is_none() && node.has(CONN)
 }
 
 /// The node hears the CER with the nth request refused, and once more where memory was wanted.
-fn hear<S: Strangers>(
+fn hear_twice<S: Strangers>(
     alloc: Global,
-    session: &mut NodeSession,
+    node: &mut Node,
     strangers: &S,
     octets: &[u8],
     nth: u32,
+    answer: &mut Answer,
 ) -> End {
     refuse(alloc, nth);
-    let heard = session.hear(alloc, strangers, CONN, octets);
+    let heard = node.hear(alloc, strangers, CONN, octets, answer);
     let refused = was_refused(alloc);
     if heard.is_err() {
-        let same = is_empty(session);
-        let again = session.hear(alloc, strangers, CONN, octets);
-        return repeated(refused, same && is_taken(session, &again));
+        let same = is_empty(node);
+        let again = node.hear(alloc, strangers, CONN, octets, answer);
+        return repeated(refused, same && is_taken(node, &again, answer));
     }
-    let right = is_taken(session, &heard);
+    let right = is_taken(node, &heard, answer);
     // Where the look-up of connections can't grow, the answer is the same.
     if refused {
         repeated(refused, right)
@@ -82,12 +81,33 @@ fn hear<S: Strangers>(
     }
 }
 
-/// A node a.example without neighbours, to which somebody made the connection.
-fn called(rt: &(impl Abort + AllocGlobal)) -> NodeSession {
-    let mut session = NodeSession::new(rt.alloc(), node(rt, b"a.example", 4), 1000, 16_777_212);
-    let accepted = session.take(rt.alloc(), NodeOrder::Accept(CONN));
+/// The same, with an answer that is lent to both calls.
+fn hear<S: Strangers>(
+    alloc: Global,
+    node: &mut Node,
+    strangers: &S,
+    octets: &[u8],
+    nth: u32,
+) -> End {
+    let mut answer = Answer::new();
+    let end = hear_twice(alloc, node, strangers, octets, nth, &mut answer);
+    drop(answer);
+    end
+}
+
+/// Somebody makes the connection.
+fn accept(rt: &(impl Abort + AllocGlobal), node: &mut Node) {
+    let mut answer = Answer::new();
+    let accepted = node.order(rt.alloc(), NodeOrder::Accept(CONN), &mut answer);
+    drop(answer);
     assert!(rt; accepted.is_ok());
-    session
+}
+
+/// A node a.example without neighbours, to which somebody made the connection.
+fn called(rt: &(impl Abort + AllocGlobal)) -> Node {
+    let mut node = Node::new(rt.alloc(), node(rt, b"a.example", 4), 1000, 16_777_212);
+    accept(rt, &mut node);
+    node
 }
 
 /// The CER of an unknown host.
@@ -98,12 +118,12 @@ struct Calling<'a> {
 
 impl<R: Abort + AllocGlobal> Subject<R> for Calling<'_> {
     fn end(&self, rt: &R, nth: u32) -> End {
-        let mut session = called(rt);
+        let mut node = called(rt);
         let template = config(rt, b"a.example", b"c.example", 4);
         let permits = Permits { template };
-        let end = hear(rt.alloc(), &mut session, &permits, self.octets, nth);
+        let end = hear(rt.alloc(), &mut node, &permits, self.octets, nth);
         drop(permits);
-        drop(session);
+        drop(node);
         end
     }
 }
@@ -116,11 +136,11 @@ struct Alike<'a> {
 
 impl<R: Abort + AllocGlobal> Subject<R> for Alike<'_> {
     fn end(&self, rt: &R, nth: u32) -> End {
-        let mut session = called(rt);
+        let mut node = called(rt);
         let open = Open::new(config(rt, b"a.example", b"c.example", 4), 1);
-        let end = hear(rt.alloc(), &mut session, &open, self.octets, nth);
+        let end = hear(rt.alloc(), &mut node, &open, self.octets, nth);
         drop(open);
-        drop(session);
+        drop(node);
         end
     }
 }

@@ -1,57 +1,48 @@
 //! What strangers send, told to a neighbour.
+use super::nodes::{add, asked, new_node};
 use super::octets::{BARE_CER, BARE_DWR, CER, CER_OF_B, CER_OF_WINNER, DWR_OF_B, SUBMITTED};
-use super::{config, node, octets_of, peer};
-use dm_node_session::{Alone, Conn, NodeOrder, NodeSession, NodeTurn};
+use super::{octets_of, peer};
+use dm_node::{Alone, Answer, Conn, Node, NodeOrder, Told};
 use dm_peer::{Action, Event, Peer};
 use std::process::Abort;
 
 /// Octets that are no message: another version.
 const FAULT: &str = "02000014";
 
-/// What comes first on a connection, in hexadecimal digits, and whether it is a message.
-type First<'a> = (u64, &'a str, bool);
+/// What comes first on a connection, in hexadecimal digits, and as what it is told.
+type First<'a> = (u64, &'a str, Told);
 
 /// No CER, one without a host, one of another host and a fault, and, behind the neighbour's own, all this once more.
 const FIRST: &[First<'static>] = &[
-    (1, DWR_OF_B, true),
-    (2, BARE_CER, true),
-    (3, CER, true),
-    (4, FAULT, false),
-    (9, CER_OF_B, true),
-    (11, BARE_DWR, true),
-    (12, CER_OF_WINNER, true),
-    (13, CER, true),
-    (14, SUBMITTED, true),
-    (15, FAULT, false),
+    (1, DWR_OF_B, Told::Message),
+    (2, BARE_CER, Told::Message),
+    (3, CER, Told::Message),
+    (4, FAULT, Told::Fault),
+    (9, CER_OF_B, Told::Message),
+    (11, BARE_DWR, Told::Message),
+    (12, CER_OF_WINNER, Told::Message),
+    (13, CER, Told::Message),
+    (14, SUBMITTED, Told::Message),
+    (15, FAULT, Told::Fault),
 ];
 
-/// A node a.example without neighbours.
-fn session(rt: &(impl Abort + AllocGlobal)) -> NodeSession {
-    NodeSession::new(rt.alloc(), node(rt, b"a.example", 4), 1000, 16_777_212)
+/// The octets as a peer is told them: no message of a fault.
+fn message_of<'a>(octets: &'a [u8], told: Told) -> &'a [u8] {
+    if told == Told::Message { octets } else { &[] }
 }
 
-/// Adds a neighbour of this host.
-fn add(rt: &(impl Abort + AllocGlobal), session: &mut NodeSession, host: &[u8]) {
-    let config = config(rt, b"a.example", host, 4).expect(rt, "a configuration");
-    let _number = session.add(config).expect(rt, "a number");
-}
-
-/// The octets as a peer is told them.
-fn told<'a>(octets: &'a [u8], is_message: bool) -> &'a [u8] {
-    if is_message { octets } else { &[] }
-}
-
-/// The turn of what comes first on the connection.
-fn turn(
+/// Somebody makes the connection, the octets are kept that come first on it, and they are told.
+fn tell_first(
     rt: &(impl Abort + AllocGlobal),
-    session: &mut NodeSession,
+    node: &mut Node,
     conn: Conn,
     octets: &[u8],
-) -> Option<NodeTurn> {
-    let accepted = session.take(rt.alloc(), NodeOrder::Accept(conn));
-    let kept = session.take(rt.alloc(), NodeOrder::Octets(conn, octets));
-    assert!(rt; accepted.is_ok() && kept.is_ok());
-    session.next(rt.alloc(), &Alone, conn).expect(rt, "memory")
+    answer: &mut Answer,
+) {
+    let accepted = node.order(rt.alloc(), NodeOrder::Accept(conn), answer);
+    let kept = node.order(rt.alloc(), NodeOrder::Octets(conn, octets), answer);
+    let told = node.next(rt.alloc(), &Alone, conn, answer);
+    assert!(rt; accepted.is_ok() && kept.is_ok() && told.is_ok());
 }
 
 fn is_same(one: &Action, other: &Action) -> bool {
@@ -79,38 +70,44 @@ fn are_same(actions: &[Action], others: &[Action]) -> bool {
 /// Whether the node of one does at the turn what its peer does by itself.
 fn does_as_its_peer(
     rt: &(impl Abort + AllocGlobal),
-    session: &mut NodeSession,
+    node: &mut Node,
     twin: &mut Peer,
     first: &First<'_>,
+    answer: &mut Answer,
 ) -> bool {
-    let (number, digits, is_message) = *first;
+    let (number, digits, told) = *first;
     let conn = Conn(number);
     let octets = octets_of(rt, digits);
-    let event = Event::Arrived(conn, told(octets.as_slice(), is_message));
+    let event = Event::Arrived(conn, message_of(octets.as_slice(), told));
     let actions = twin.on(rt.alloc(), event).expect(rt, "actions");
-    match turn(rt, session, conn, octets.as_slice()) {
-        Some(turn) => {
-            turn.arrived.is_some() == is_message
-                && turn.answer.neighbour == Some(0)
-                && are_same(turn.answer.actions.as_slice(), actions.as_slice())
-                && session.neighbours().state_of(0) == Some(twin.state())
-        }
-        None => false,
-    }
+    tell_first(rt, node, conn, octets.as_slice(), answer);
+    let is_alike = answer.told == told
+        && answer.neighbour == Some(0)
+        && are_same(answer.actions.as_slice(), actions.as_slice())
+        && node.state_of(0) == Some(twin.state());
+    drop(actions);
+    drop(octets);
+    is_alike
 }
 
-fn assert_alone(rt: &(impl Abort + AllocGlobal)) {
-    let mut session = session(rt);
-    add(rt, &mut session, b"b.example");
-    let mut twin = peer(rt, b"a.example", b"b.example", 4);
+fn assert_as_its_peer(rt: &(impl Abort + AllocGlobal), node: &mut Node, twin: &mut Peer) {
+    let mut answer = Answer::new();
     for first in FIRST {
         assert!(rt;
-            does_as_its_peer(rt, &mut session, &mut twin, first),
+            does_as_its_peer(rt, node, twin, first, &mut answer),
             "at {first:?}"
         );
     }
+    drop(answer);
+}
+
+fn assert_alone(rt: &(impl Abort + AllocGlobal)) {
+    let mut node = new_node(rt);
+    add(rt, &mut node, b"b.example");
+    let mut twin = peer(rt, b"a.example", b"b.example", 4);
+    assert_as_its_peer(rt, &mut node, &mut twin);
     drop(twin);
-    drop(session);
+    drop(node);
 }
 
 /// A node of one neighbour does what its peer does by itself, whoever sends what comes.
@@ -119,31 +116,48 @@ fn node_of_one_is_its_peer(rt: HostRuntime) {
     assert_alone(&rt);
 }
 
-/// Whom what comes first on the connection concerns, and how many actions it asks for.
+/// What comes first on a connection, in hexadecimal digits, whom it concerns, and how many actions it asks for.
+type Concerned<'a> = (u64, &'a str, Option<usize>, usize);
+
+/// c.example is the first neighbour, and b.example the second.
+const WITH_THE_FIRST: &[Concerned<'static>] = &[
+    (1, BARE_CER, Some(0), 2),
+    (9, CER_OF_B, Some(1), 1),
+    (3, DWR_OF_B, Some(0), 1),
+];
+
+/// The first is gone.
+const WITHOUT_IT: &[Concerned<'static>] = &[(4, CER, None, 2), (5, DWR_OF_B, None, 1)];
+
 fn concerns(
     rt: &(impl Abort + AllocGlobal),
-    session: &mut NodeSession,
-    conn: Conn,
-    digits: &str,
-) -> Option<(Option<usize>, usize)> {
+    node: &mut Node,
+    case: &Concerned<'_>,
+    answer: &mut Answer,
+) -> bool {
+    let (number, digits, concerned, count) = *case;
     let octets = octets_of(rt, digits);
-    match turn(rt, session, conn, octets.as_slice()) {
-        Some(turn) => Some((turn.answer.neighbour, turn.answer.actions.len())),
-        None => None,
+    tell_first(rt, node, Conn(number), octets.as_slice(), answer);
+    drop(octets);
+    answer.told != Told::Nothing && asked(answer) == (concerned, count)
+}
+
+fn assert_cases(rt: &(impl Abort + AllocGlobal), node: &mut Node, cases: &[Concerned<'_>]) {
+    let mut answer = Answer::new();
+    for case in cases {
+        assert!(rt; concerns(rt, node, case, &mut answer), "at {case:?}");
     }
+    drop(answer);
 }
 
 fn assert_porter(rt: &(impl Abort + AllocGlobal)) {
-    let mut session = session(rt);
-    add(rt, &mut session, b"c.example");
-    add(rt, &mut session, b"b.example");
-    assert!(rt; concerns(rt, &mut session, Conn(1), BARE_CER) == Some((Some(0), 2)));
-    assert!(rt; concerns(rt, &mut session, Conn(9), CER_OF_B) == Some((Some(1), 1)));
-    assert!(rt; concerns(rt, &mut session, Conn(3), DWR_OF_B) == Some((Some(0), 1)));
-    assert!(rt; session.remove(0).is_some());
-    assert!(rt; concerns(rt, &mut session, Conn(4), CER) == Some((None, 2)));
-    assert!(rt; concerns(rt, &mut session, Conn(5), DWR_OF_B) == Some((None, 1)));
-    drop(session);
+    let mut node = new_node(rt);
+    add(rt, &mut node, b"c.example");
+    add(rt, &mut node, b"b.example");
+    assert_cases(rt, &mut node, WITH_THE_FIRST);
+    assert!(rt; node.remove(0).is_some());
+    assert_cases(rt, &mut node, WITHOUT_IT);
+    drop(node);
 }
 
 /// A host's call is told its own neighbour, what strangers send the first one, and nobody where that is gone.

@@ -1,7 +1,8 @@
 //! Hosts that are no neighbours, taken alike.
+use super::config;
+use super::nodes::{heard, new_node};
 use super::octets::{CER, CER_OF_B, CER_OF_WINNER};
-use super::{config, node, octets_of};
-use dm_node_session::{Conn, NodeOrder, NodeSession, Open};
+use dm_node::{Answer, Conn, Node, Open};
 use dm_peer::State;
 use std::process::Abort;
 
@@ -27,44 +28,36 @@ const TAKEN: &[Case<'static>] = &[
 const TAKEN_AGAIN: &[Case<'static>] = &[(1, 13, CER_OF_B, None, 2), (2, 14, CER_OF_B, Some(2), 1)];
 
 /// Each is taken by a template of a.example for c.example.
-fn meets(rt: &(impl Abort + AllocGlobal), session: &mut NodeSession, case: &Case<'_>) -> bool {
+fn meets(
+    rt: &(impl Abort + AllocGlobal),
+    node: &mut Node,
+    case: &Case<'_>,
+    answer: &mut Answer,
+) -> bool {
     let (most, conn, digits, concerned, count) = *case;
-    let octets = octets_of(rt, digits);
     let config = config(rt, b"a.example", b"c.example", 4).expect(rt, "a configuration");
     let open = Open::new(config, most);
-    let accepted = session.take(rt.alloc(), NodeOrder::Accept(Conn(conn)));
-    assert!(rt; accepted.is_ok());
-    let heard = session
-        .hear(rt.alloc(), &open, Conn(conn), octets.as_slice())
-        .expect(rt, "memory");
-    match heard {
-        Some(heard) => {
-            let done = &heard.turn.answer;
-            done.neighbour == concerned && done.actions.len() == count
-        }
-        None => false,
-    }
+    let told = heard(rt, node, &open, Conn(conn), digits, answer);
+    drop(open);
+    told == Some((concerned, count))
 }
 
-fn assert_cases(rt: &(impl Abort + AllocGlobal), session: &mut NodeSession, cases: &[Case<'_>]) {
+fn assert_cases(rt: &(impl Abort + AllocGlobal), node: &mut Node, cases: &[Case<'_>]) {
+    let mut answer = Answer::new();
     for case in cases {
-        assert!(rt; meets(rt, session, case), "at {case:?}");
+        assert!(rt; meets(rt, node, case, &mut answer), "at {case:?}");
     }
+    drop(answer);
 }
 
 fn assert_taken(rt: &(impl Abort + AllocGlobal)) {
-    let mut session = NodeSession::new(rt.alloc(), node(rt, b"a.example", 4), 1000, 16_777_212);
-    assert_cases(rt, &mut session, TAKEN);
-    assert!(rt;
-        session.neighbours().iter().len() == 2 && session.neighbours().find(b"c.example").is_none()
-    );
-    assert!(rt; session.remove(0).is_some() && session.remove(0).is_none());
-    assert_cases(rt, &mut session, TAKEN_AGAIN);
-    assert!(rt;
-        session.neighbours().state_of(2) == Some(State::ROpen)
-            && session.neighbours().find(b"B.example") == Some(2)
-    );
-    drop(session);
+    let mut node = new_node(rt);
+    assert_cases(rt, &mut node, TAKEN);
+    assert!(rt; node.iter().len() == 2 && node.find(b"c.example").is_none());
+    assert!(rt; node.remove(0).is_some() && node.remove(0).is_none());
+    assert_cases(rt, &mut node, TAKEN_AGAIN);
+    assert!(rt; node.state_of(2) == Some(State::ROpen) && node.find(b"B.example") == Some(2));
+    drop(node);
 }
 
 /// Any host becomes a neighbour but the own, while there may be one more.

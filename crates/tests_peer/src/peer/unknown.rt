@@ -1,7 +1,8 @@
 //! Hosts that are no neighbours, by a policy of one's own.
+use super::config;
+use super::nodes::{heard, new_node};
 use super::octets::{CER, CER_OF_B};
-use super::{config, node, octets_of};
-use dm_node_session::{Config, Conn, NodeOrder, NodeSession, Strangers};
+use dm_node::{Answer, Config, Conn, Node, Strangers};
 use dm_peer::State;
 use std::process::Abort;
 
@@ -53,40 +54,28 @@ const CASES: &[Case<'static>] = &[
     (4, 9, 1, 9, CER_OF_B, Some(0), 1, 1),
 ];
 
-fn meets(rt: &(impl Abort + AllocGlobal), session: &mut NodeSession, case: &Case<'_>) -> bool {
+fn meets(rt: &(impl Abort + AllocGlobal), node: &mut Node, case: &Case<'_>) -> bool {
     let (application, longest, most, conn, digits, concerned, count, present) = *case;
-    let octets = octets_of(rt, digits);
     let template = config(rt, b"a.example", b"c.example", application).expect(rt, "a template");
     let policy = Permits {
         template,
         longest,
         most,
     };
-    let accepted = session.take(rt.alloc(), NodeOrder::Accept(Conn(conn)));
-    assert!(rt; accepted.is_ok());
-    let heard = session
-        .hear(rt.alloc(), &policy, Conn(conn), octets.as_slice())
-        .expect(rt, "memory");
-    let is_done = match heard {
-        Some(heard) => {
-            let done = &heard.turn.answer;
-            done.neighbour == concerned && done.actions.len() == count
-        }
-        None => false,
-    };
-    is_done && session.neighbours().iter().len() == present
+    let mut answer = Answer::new();
+    let told = heard(rt, node, &policy, Conn(conn), digits, &mut answer);
+    drop(answer);
+    drop(policy);
+    told == Some((concerned, count)) && node.iter().len() == present
 }
 
 fn assert_policy(rt: &(impl Abort + AllocGlobal)) {
-    let mut session = NodeSession::new(rt.alloc(), node(rt, b"a.example", 4), 1000, 16_777_212);
+    let mut node = new_node(rt);
     for case in CASES {
-        assert!(rt; meets(rt, &mut session, case), "at {case:?}");
+        assert!(rt; meets(rt, &mut node, case), "at {case:?}");
     }
-    assert!(rt;
-        session.neighbours().state_of(0) == Some(State::ROpen)
-            && session.neighbours().find(b"B.example") == Some(0)
-    );
-    drop(session);
+    assert!(rt; node.state_of(0) == Some(State::ROpen) && node.find(b"B.example") == Some(0));
+    drop(node);
 }
 
 /// An unknown host becomes a neighbour where the policy permits it, and there may be one more.

@@ -1,30 +1,37 @@
-use Rattle.std.proofs.Common.{◌≡◌, ◌∙◌, refl, sym, ap, subst}
-use Rattle.dm_node_session.specs.declared.node_turn.NodeTurn.{NodeTurn}
-use Rattle.dm_node_session.specs.NodeSessions.{NodeSession, NodeIsOut}
-use Rattle.dm_node_session.specs.NodeTurns.{as_node_turn}
+use Rattle.std.proofs.Common.{◌≡◌, ◌∙◌, sym, ap, subst}
+use Rattle.dm_node.specs.Answers.{turn_in}
+use Rattle.dm_node.specs.NodeStates.{NodeState, NodeTurn, NodeIsOut}
 use Rattle.dm_live.specs.Answers.{policy_of, MeetsNext}
 use Rattle.dm_live.specs.Meetings.{meeting_of}
 use Rattle.dm_live.proofs.Options.{some-holds, none-holds}
+use Rattle.dm_live.proofs.Turns.{done_so}
 use Rattle.dm_live.proofs.answer.hear_next.Goals as goal
 
-pub returns-in_ok-put_turn-in-Ok-Some-clause-told : goal.returns-in_ok-put_turn-in-Ok-Some-clause-told
-returns-in_ok-put_turn-in-Ok-Some-clause-told c =
+pub returns-in-Ok-clause-told : goal.returns-in-Ok-clause-told
+returns-in-Ok-clause-told c =
     let s = meeting_of c.args.session.now in
     let t = meeting_of c.next_turn.new.session in
-    let Next : NodeTurn → Type 0 = λ turn. MeetsNext (policy_of c.args.form) c.args.conn s (as_node_turn turn) t in
-    let turn = c.in-Ok-Some.turn in
-    let next = some-holds Next c.in-Ok-Some.field-0 turn c.in-Ok-Some.field-0-is c.in-Ok-Some.ensures.told in
-    λ _. (as_node_turn turn, next, c.or.ensures, c.in_ok-put_turn-in-Ok-Some.ensures)
+    let found = turn_in c.args.conn c.next_turn.new.answer in
+    let Next : NodeTurn → Type 0 = λ turn. MeetsNext (policy_of c.args.form) c.args.conn s turn t in
+    done_so c.put_heard.result
+    (λ more told is.
+    let h = told is in
+    (h.0, some-holds Next found h.0 h.1 c.in-Ok.ensures.told, h.2, h.3))
+    c.put_heard.ensures.told
 
-pub returns-in-Ok-None-clause-out : goal.returns-in-Ok-None-clause-out
-returns-in-Ok-None-clause-out c =
+pub returns-in-Ok-clause-out : goal.returns-in-Ok-clause-out
+returns-in-Ok-clause-out c =
     let s = meeting_of c.args.session.now in
     let t = meeting_of c.next_turn.new.session in
-    let field = c.in-Ok-None.field-0 in
-    let is = c.in-Ok-None.field-0-is in
-    let Out : NodeSession → Type 0 = λ v. NodeIsOut c.args.conn v in
-    let none = none-holds (Out s.session × (t.session ≡ s.session)) field is c.in-Ok-None.ensures.out in
-    let unmet = none-holds (t.known ≡ s.known) field is c.in-Ok-None.ensures.unmet in
+    let found = turn_in c.args.conn c.next_turn.new.answer in
+    let Out : NodeState → Type 0 = λ v. NodeIsOut c.args.conn v in
+    done_so c.put_heard.result
+    (λ more out is.
+    let h = out is in
+    let none = none-holds (Out s.session × (t.session ≡ s.session)) found h.0 c.in-Ok.ensures.out in
+    let unmet = none-holds (t.known ≡ s.known) found h.0 c.in-Ok.ensures.unmet in
     let same : t ≡ s =
-    ap (λ v. record { session = v; known = t.known }) none.1 ∙ ap (λ v. record { session = s.session; known = v }) unmet in
-    λ _. (subst Out (sym none.1) none.0, same, refl, refl)
+    ap (λ v. record { session = v; known = t.known }) none.1
+    ∙ ap (λ v. record { session = s.session; known = v }) unmet in
+    (subst Out (sym none.1) none.0, same, h.1, h.2))
+    c.put_heard.ensures.out

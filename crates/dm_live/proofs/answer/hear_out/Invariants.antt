@@ -1,6 +1,6 @@
 use Rattle.std.proofs.Common.{◌≡◌, ◌++◌, List}
 use Rattle.std.specs.String.{string_bytes}
-use Rattle.dm_node_session.specs.NodeSessions.{NodeTurn}
+use Rattle.dm_node.specs.NodeStates.{NodeTurn}
 use Rattle.dm_live.specs.Answers.{turns_lines, whom_last, policy_of, MeetsAlong}
 use Rattle.dm_live.specs.Meetings.{meeting_of}
 use Rattle.dm_live.proofs.answer.hear_out.Given as goal

@@ -1,7 +1,7 @@
 use Rattle.std.proofs.Common.{◌≡◌, ◌++◌, refl, ◌∙◌, List, ℕ}
 use Rattle.std.specs.String.{string_bytes}
-use Rattle.dm_node_session.specs.declared.node_session.NodeSession.{NodeSession}
-use Rattle.dm_node_session.specs.NodeSeen.{node_session_of, node_known_of}
+use Rattle.dm_node.specs.declared.node.Node.{Node}
+use Rattle.dm_node.specs.NodeSeen.{node_state_of, node_known_of}
 use Rattle.dm_live.specs.declared.begun.Begun.{Begun}
 use Rattle.dm_live.specs.declared.begun.Begun.TheVariants as variants
 use Rattle.dm_live.specs.Beginnings.{BeginsForHosts, AreUnmet}
@@ -15,8 +15,8 @@ use Rattle.dm_live.proofs.begun.begin_session.Goals as goal
 pub returns-in-Ok : goal.returns-in-Ok
 returns-in-Ok c =
     let s = settings_of c.args.draft.now in
-    let IsSo : NodeSession → Type 0 = λ session. BeginsForHosts s s.peers (node_session_of session) in
-    let IsNew : NodeSession → Type 0 = λ session. AreUnmet (node_known_of session) in
+    let IsSo : Node → Type 0 = λ session. BeginsForHosts s s.peers (node_state_of session) in
+    let IsNew : Node → Type 0 = λ session. AreUnmet (node_known_of session) in
     let begun = ok-holds IsSo _ c.in-Ok.session c.in-Ok.is c.in_ok-session.ensures.begun in
     let unmet = ok-holds IsNew _ c.in-Ok.session c.in-Ok.is c.in_ok-session.ensures.unmet in
     let good = goes_by_peers s c.requires.good c.requires.fits

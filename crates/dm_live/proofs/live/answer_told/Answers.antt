@@ -1,5 +1,5 @@
 use Rattle.std.proofs.Common.{ℕ, Option, MatchOption, subst}
-use Rattle.dm_node_session.specs.declared.node_order.NodeOrder.{NodeOrder}
+use Rattle.dm_node.specs.declared.node_order.NodeOrder.{NodeOrder}
 use Rattle.dm_live.specs.declared.order_line.OrderLine.{OrderLine}
 use Rattle.dm_live.specs.Meetings.{meeting_of}
 use Rattle.dm_live.specs.OrderLines.{node_asked, told_order, TellsOrder}

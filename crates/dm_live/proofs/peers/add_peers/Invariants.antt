@@ -1,5 +1,5 @@
 use Rattle.std.proofs.Common.{length}
-use Rattle.dm_node_session.specs.NodeSeen.{node_session_of, node_known_of}
+use Rattle.dm_node.specs.NodeSeen.{node_state_of, node_known_of}
 use Rattle.dm_live.specs.Beginnings.{AreUnmet}
 use Rattle.dm_live.specs.Drafts.{settings_of}
 use Rattle.dm_live.proofs.Joining.{Joining}
@@ -8,7 +8,7 @@ use Rattle.dm_live.proofs.peers.add_peers.Given as goal
 -- the hosts so far are neighbours that met nobody, and the rest is left
 abbrev pub invariant-host : goal.invariant-host
 invariant-host l =
-    Joining (settings_of l.draft) l.rest (node_session_of l.session) × AreUnmet (node_known_of l.session)
+    Joining (settings_of l.draft) l.rest (node_state_of l.session) × AreUnmet (node_known_of l.session)
 
 abbrev pub decreases-host : goal.decreases-host
 decreases-host l = length l.rest

@@ -1,5 +1,5 @@
 use Rattle.dm_node.proofs.Counted.{present_told}
-use Rattle.dm_node.proofs.Declined.{ruled_here, rule_of, silent_of, declined_here}
+use Rattle.dm_node.proofs.Declined.{ruled_here, rule_of}
 use Rattle.dm_node.proofs.Named.{named_same, unlike_same}
 use Rattle.dm_node.proofs.Places.{found, set_here}
 use Rattle.dm_node.proofs.Taking.{leaves, apart_after, hosts_after, is_told, if_done, if_err, done_or_same}
@@ -59,14 +59,6 @@ pub returns-clause-refuses : goal.returns-clause-refuses
 returns-clause-refuses c = λ f out.
     c.on_into.ensures.refuses f (rule_of _ _ _
     (found c.args.peers.now.items c.args.index _ _ c.index_mut.ensures.value c.in-Some.is c.requires.there) _ f out)
-
-pub returns-clause-silent : goal.returns-clause-silent
-returns-clause-silent c = λ takes.
-    if_err c.on_into.result
-    (declined_here _ _ _
-    (found c.args.peers.now.items c.args.index _ _ c.index_mut.ensures.value c.in-Some.is c.requires.there) _)
-    (c.on_into.ensures.silent (silent_of _ _ _
-    (found c.args.peers.now.items c.args.index _ _ c.index_mut.ensures.value c.in-Some.is c.requires.there) _ takes))
 
 pub returns-clause-present : goal.returns-clause-present
 returns-clause-present c = present_told c.args.peers.now.items c.args.index _ c.requires.there

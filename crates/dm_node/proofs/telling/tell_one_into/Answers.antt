@@ -1,6 +1,6 @@
 use Rattle.std.proofs.Common.{Err, inl, inr, sym, ap, subst}
 use Rattle.dm_peer.specs.Events.{PeerEvent}
-use Rattle.dm_node.specs.Declining.{IsRuledOut, TakesNoMemory, IsDeclined}
+use Rattle.dm_node.specs.Declining.{IsRuledOut}
 use Rattle.dm_node.specs.Telling.{IsRefusedBy}
 use Rattle.dm_node.specs.declared.fault.EventFault.TheVariants as faults
 use Rattle.dm_node.proofs.Declined.{not_done, same_fault}
@@ -39,13 +39,3 @@ returns-in-Err-clause-ruled c = λ policy concerned.
         subst (λ (e : PeerEvent). IsRuledOut ps c.args.index e c.in-Err.fault) c.told_of-told.ensures out,
       )
     ]
-
-pub returns-in-Err-clause-silent : goal.returns-in-Err-clause-silent
-returns-in-Err-clause-silent c = λ policy concerned takes.
-    let ps = c.args.roster.now.peers.items in (
-      c.args.index,
-      concerned,
-      subst (λ (e : PeerEvent). IsDeclined ps c.args.index e c.in-Err.fault) c.told_of-told.ensures
-          (c.in-Err.ensures.silent
-          (subst (λ (e : PeerEvent). TakesNoMemory ps c.args.index e) (sym c.told_of-told.ensures) takes)),
-    )

@@ -1,32 +1,21 @@
 use Rattle.std.proofs.Common.{◌≡◌, ℕ, List, Some, [], ◌∷◌, ◌++◌, length, if◌then◌else◌, refl, sym, ap, subst, ◌∙◌}
 use Rattle.dm_base.specs.Before.{lower}
 use Rattle.dm_peer.specs.declared.config.Config.{Config}
-use Rattle.dm_node.specs.Holding.{holds_at, AreApart, AreUnlike}
+use Rattle.dm_node.specs.Holding.{AreApart, AreUnlike}
 use Rattle.dm_node.specs.Naming.{is_host, noted_number, AreHostsNoted}
-use Rattle.dm_node.specs.Owning.{AreOwned}
 use Rattle.dm_node.specs.Strangers.{present}
 use Rattle.dm_node.proofs.Counted.{room_for, counted_put}
 use Rattle.dm_node.proofs.Growing.{unlike_grown}
 use Rattle.dm_node.proofs.Named.{noted_same}
 use Rattle.dm_node.proofs.Renamed.{named_put}
-use Rattle.dm_node.proofs.Welcomed.{apart_admitted, resettled_admitted}
+use Rattle.dm_node.proofs.Welcomed.{apart_admitted}
 use Rattle.dm_node.proofs.roster.Roster.admit.Goals as goal
 
 pub one_more-self-requires : goal.one_more-self-requires
 one_more-self-requires c =
     let ps = c.args.self.now.peers.items in
     room_for ps _ c.args.peer c.args.self.now.present c.requires.roster.counted
-    (c.deref-in-Ok.ensures.value ∙ c.push.ensures ∙ ap (λ l. l ++ Some c.args.peer ∷ []) c.make_room.ensures.same)
-
-pub settle-requires : goal.settle-requires
-settle-requires c =
-    let ps = c.args.self.now.peers.items in
-    record {
-      apart = subst AreApart
-          (sym (c.deref-in-Ok-2.ensures.value ∙ c.push.ensures
-          ∙ ap (λ l. l ++ Some c.args.peer ∷ []) c.make_room.ensures.same))
-          (apart_admitted ps c.args.peer c.requires.free c.requires.roster.apart);
-    }
+    (c.deref.ensures.value ∙ c.push.ensures ∙ ap (λ l. l ++ Some c.args.peer ∷ []) c.make_room.ensures.same)
 
 pub returns-in-Ok-clause-roster : goal.returns-in-Ok-clause-roster
 returns-in-Ok-clause-roster c =
@@ -37,11 +26,6 @@ returns-in-Ok-clause-roster c =
       apart = subst AreApart (sym grown) (apart_admitted ps c.args.peer c.requires.free c.requires.roster.apart);
       unlike = subst AreUnlike (sym grown)
           (unlike_grown ps c.args.peer c.args.peer.config.peer refl c.requires.unknown c.requires.roster.unlike);
-      owned = subst (AreOwned c.settle.new.self) c.deref-in-Ok-2.ensures.value (c.settle.ensures ps
-          (resettled_admitted ps c.deref-in-Ok-2.result.now c.args.peer c.len-index.result _
-          (c.len-index.ensures ∙ c.args.self.now.peers.ok.0) (c.deref-in-Ok-2.ensures.value ∙ grown)
-          (λ d. c.holding_at-before.ensures d ∙ ap (λ l. holds_at l d c.len-index.result) c.deref.ensures.value))
-          c.requires.roster.owned);
       named = subst (AreHostsNoted c.make_room.new.hosts) (sym grown)
           (named_put c.args.self.now.hosts c.make_room.new.hosts ps c.args.peer c.requires.roster.named
           c.requires.unknown
@@ -58,7 +42,6 @@ returns-in-Err-clause-roster c =
     record {
       apart = subst AreApart same c.requires.roster.apart;
       unlike = subst AreUnlike same c.requires.roster.unlike;
-      owned = subst (AreOwned c.args.self.now.owners) same c.requires.roster.owned;
       named = subst (AreHostsNoted c.make_room.new.hosts) same
           (noted_same c.args.self.now.hosts c.make_room.new.hosts c.args.self.now.peers.items c.in-Err.ensures.kept
           c.requires.roster.named);

@@ -1,7 +1,6 @@
 use Rattle.std.proofs.Common.{sym, ap, ◌∙◌}
 use Rattle.dm_history.specs.History.{new_peer}
 use Rattle.dm_node.proofs.Counted.{room_for, counted_put}
-use Rattle.dm_node.proofs.Rostered.{owned_put}
 use Rattle.dm_node.specs.Strangers.{present}
 use Rattle.dm_node.proofs.roster.Roster.put.Goals as goal
 
@@ -14,8 +13,6 @@ pub returns-in-Ok-clause-roster : goal.returns-in-Ok-clause-roster
 returns-in-Ok-clause-roster c = record {
   apart = c.put.ensures.apart c.requires.apart;
   unlike = c.put.ensures.unlike c.requires.unlike;
-  owned = owned_put c.put.result c.args.self.now.peers.items _ c.args.config _ c.put.ensures.added
-      c.put.ensures.unchanged c.requires.owned;
   named = c.put.ensures.named;
   counted = counted_put c.args.self.now.peers.items _ (new_peer c.args.config c.args.config.first_id)
       c.args.self.now.present _ c.requires.counted c.in-Ok.ensures.added c.one_more-self.ensures;
@@ -25,8 +22,6 @@ pub returns-in-Err-clause-roster : goal.returns-in-Err-clause-roster
 returns-in-Err-clause-roster c = record {
   apart = c.put.ensures.apart c.requires.apart;
   unlike = c.put.ensures.unlike c.requires.unlike;
-  owned = owned_put c.put.result c.args.self.now.peers.items _ c.args.config _ c.put.ensures.added
-      c.put.ensures.unchanged c.requires.owned;
   named = c.put.ensures.named;
   counted = c.requires.counted ∙ sym (ap present c.in-Err.ensures.unchanged);
 }

@@ -5,8 +5,8 @@ use Rattle.dm_slots.specs.Intakes.{raised_at}
 use Rattle.dm_slots.proofs.Steps.{raised_before}
 use Rattle.dm_slots.proofs.intakes.Intakes.raise.Goals as goal
 
-pub returns-else-not-is_raised : goal.returns-else-not-is_raised
-returns-else-not-is_raised c =
+pub returns-else-not-is_raised-clause-raised : goal.returns-else-not-is_raised-clause-raised
+returns-else-not-is_raised-clause-raised c =
     let old = intakes_of c.args.self.now in
     let at = c.is_raised.ensures.raised c.if-not-is_raised.false in
     c.is_raised.ensures.same ∙ sym (ap (λ o. raised_at c.args.max o old) c.in-Some.is

@@ -1,0 +1,393 @@
+-- Whom neighbours met, place by place.
+use Rattle.std.proofs.Common.{◌≡◌, ◌<◌, inl, inr, ℕ, zero, suc, Bool, true, false, cond, not, ◌&&◌, ◌==◌, nat_eq, true≢false}
+use Rattle.std.proofs.Common.{Result, Ok, Err, OnOk, OnErr, Bor}
+use Rattle.std.proofs.Common.{Option, None, Some, IsSome, is_some, List, [], ◌∷◌, ◌++◌, length, map, option_map}
+use Rattle.std.proofs.Common.{refl, sym, ap, ◌∙◌, subst, arith}
+use Rattle.std.specs.Prelude.{nat_lt, slice_get}
+use Rattle.std.proofs.Math.ListN.{set}
+use Rattle.std.proofs.Math.Path.{fun_ext}
+use Rattle.std.proofs.lemmas.Bool.{eqb-true, lt-ltb, le-ltb, and_parts, not-true}
+use Rattle.std.proofs.lemmas.List.{map-append, length-map}
+use Rattle.std.specs.Option.{option_flatten, option_copied}
+use Rattle.dm_wire.specs.declared.message.Message.{Message}
+use Rattle.dm_wire.specs.Whole.{message_in}
+use Rattle.dm_base.specs.Codes.{capabilities_exchange}
+use Rattle.dm_base.specs.declared.node.Node.{Node}
+use Rattle.dm_history.specs.History.{new_peer}
+use Rattle.dm_machine.specs.declared.connection.Conn.{Conn}
+use Rattle.dm_machine.specs.declared.state_name.State.{State}
+use Rattle.dm_machine.specs.declared.state_name.State.TheVariants.{Closed}
+use Rattle.dm_machine.specs.Moves.{is_open}
+use Rattle.dm_node.specs.Adding.{with_new}
+use Rattle.dm_node.specs.Calling.{Caller, caller_in, caller_of, calling_host}
+use Rattle.dm_node.specs.Emptying.{set_back}
+use Rattle.dm_node.specs.Holding.{peer_at}
+use Rattle.dm_node.specs.Policies.{Policy}
+use Rattle.dm_node.specs.Strangers.{NodeMoves, NodeIsTold}
+use Rattle.dm_node.specs.Telling.{Concerns, IsAddressed, IsStrangeCer, PeerIsTold, told_of}
+use Rattle.dm_node.specs.declared.events.NodeEvent.{NodeEvent}
+use Rattle.dm_node.specs.declared.events.NodeEvent.TheVariants as event
+use Rattle.dm_peer.specs.declared.actions.Action.{Action}
+use Rattle.dm_peer.specs.declared.config.Config.{Config}
+use Rattle.dm_peer.specs.declared.peer.Peer.{Peer}
+use Rattle.dm_peer.specs.Events.{PeerEvent, Arrived}
+use Rattle.dm_slots.specs.Acquaintances.{Acquaintance, nobody, exchange_of, spells_exchange, is_exchange_to}
+use Rattle.dm_slots.specs.Acquaintances.{known_by, known_after, known_at, known_if_any}
+use Rattle.dm_node.specs.NodeKnown.{AreKnown, acquaintance_at, with_nobody, with_known, given_place, peer_state, MeetsAny, IsCopied}
+use Rattle.dm_node.specs.NodeKnown.{KnownAfterOrder}
+use Rattle.dm_node.specs.NodeOrders.{ShutsUnheld}
+use Rattle.dm_node.specs.NodeStates.{NodeState, NodeAnswer}
+use Rattle.dm_node.proofs.Newcomers.{peers_stay}
+use Rattle.dm_node.proofs.NodeMoving.{unlike}
+
+-- Places that are taken.
+
+there_mapped : {A : Type 0} (f : A → A) (x : Option A) → is_some (option_map f x) ≡ is_some x
+there_mapped f None = refl
+there_mapped f (Some x) = refl
+
+-- where what has one is changed, the same are taken
+pub same_changed : {A : Type 0} (f : A → A) (l : List (Option A)) (i : ℕ) →
+    map is_some (set l i (option_map f (option_flatten (slice_get l i)))) ≡ map is_some l
+same_changed f [] i = refl
+same_changed f (x ∷ xs) zero = ap (λ b. b ∷ map is_some xs) (there_mapped f x)
+same_changed f (x ∷ xs) (suc i) = ap (λ l. is_some x ∷ l) (same_changed f xs i)
+
+-- and where each is
+pub same_each : {A : Type 0} (f : A → A) (l : List (Option A)) → map is_some (map (option_map f) l) ≡ map is_some l
+same_each f [] = refl
+same_each f (x ∷ xs) = ap (λ b. b ∷ map is_some (map (option_map f) xs)) (there_mapped f x)
+    ∙ ap (λ l. is_some x ∷ l) (same_each f xs)
+
+-- one is left
+left_one : {A : Type 0} (l : List (Option A)) (i : ℕ) → map is_some (set l i None) ≡ set (map is_some l) i false
+left_one [] i = refl
+left_one (x ∷ xs) zero = refl
+left_one (x ∷ xs) (suc i) = ap (λ l. is_some x ∷ l) (left_one xs i)
+
+-- two lists of neighbours of which the same are there
+same_there : (ps qs : List (Option Peer)) → length qs ≡ length ps →
+    ((j : ℕ) → is_some (peer_at qs j) ≡ is_some (peer_at ps j)) → map is_some qs ≡ map is_some ps
+same_there [] [] count each = refl
+same_there [] (q ∷ qs) count each = absurd (omega (arith, count))
+same_there (p ∷ ps) [] count each = absurd (omega (arith, count))
+same_there (p ∷ ps) (q ∷ qs) count each =
+    let fewer : length qs ≡ length ps = omega (arith, count) in
+    ap (λ b. b ∷ map is_some qs) (each zero) ∙ ap (λ l. is_some p ∷ l) (same_there ps qs fewer (λ j. each (suc j)))
+
+told_there : (ps qs : List (Option Peer)) (i : ℕ) (e : PeerEvent) (actions : List Action) →
+    PeerIsTold ps qs i e actions → map is_some qs ≡ map is_some ps
+told_there ps qs i e actions h = same_there ps qs h.count (λ j. by j (nat_eq j i) refl)
+  where
+    by : (j : ℕ) (b : Bool) → nat_eq j i ≡ b → is_some (peer_at qs j) ≡ is_some (peer_at ps j)
+    by j true same =
+        ap (λ k. is_some (peer_at qs k)) (eqb-true j i same) ∙ ap is_some h.is ∙ sym (ap is_some h.was)
+        ∙ sym (ap (λ k. is_some (peer_at ps k)) (eqb-true j i same))
+    by j false other = ap is_some (h.others j (unlike j i other))
+
+-- who is there has a number below how many places there are
+below : (ps : List (Option Peer)) (i : ℕ) (p : Peer) → peer_at ps i ≡ Some p → i < length ps
+below [] i p is = absurd (true≢false (sym (ap is_some is)))
+below (x ∷ xs) zero p is = omega arith
+below (x ∷ xs) (suc i) p is = let less = below xs i p is in omega (arith, less)
+
+same_count : (ps : List (Option Peer)) (ks : List (Option Acquaintance)) → AreKnown ps ks → length ks ≡ length ps
+same_count ps ks known = sym (length-map ks is_some) ∙ ap length known ∙ length-map ps is_some
+
+-- its place is there
+has_place : (ps : List (Option Peer)) (ks : List (Option Acquaintance)) (i : ℕ) (p : Peer) → AreKnown ps ks →
+    peer_at ps i ≡ Some p → nat_lt i (length ks) ≡ true
+has_place ps ks i p known is =
+    let less = below ps i p is in
+    let count = same_count ps ks known in
+    lt-ltb i (length ks) (omega (arith, less, count))
+
+pub placed : (ps : List (Option Peer)) (ks : List (Option Acquaintance)) (i : ℕ) (p : Peer) → AreKnown ps ks →
+    peer_at ps i ≡ Some p → given_place i ks ≡ ks
+placed ps ks i p known is = ap (λ b. cond b ks (with_nobody ks)) (has_place ps ks i p known is)
+
+-- one that was taken in has a new one
+placed_behind : (ps : List (Option Peer)) (ks : List (Option Acquaintance)) (i : ℕ) → AreKnown ps ks → i ≡ length ps →
+    given_place i ks ≡ with_nobody ks
+placed_behind ps ks i known last =
+    let count = same_count ps ks known in
+    ap (λ b. cond b ks (with_nobody ks)) (le-ltb i (length ks) (omega (arith, last, count)))
+
+-- who is there has met somebody or nobody
+pub present_at : (ps : List (Option Peer)) (ks : List (Option Acquaintance)) (i : ℕ) → AreKnown ps ks →
+    is_some (acquaintance_at ks i) ≡ is_some (peer_at ps i)
+present_at [] [] i known = refl
+present_at [] (k ∷ ks) i known = let count = same_count [] (k ∷ ks) known in absurd (omega (arith, count))
+present_at (p ∷ ps) [] i known = let count = same_count (p ∷ ps) [] known in absurd (omega (arith, count))
+present_at (p ∷ ps) (k ∷ ks) zero known = cc known
+present_at (p ∷ ps) (k ∷ ks) (suc i) known =
+    let behind : map is_some ks ≡ map is_some ps = cc known in present_at ps ks i behind
+
+pub there_copied : (o : Option (Bor Acquaintance)) → is_some (option_copied o) ≡ is_some o
+there_copied None = refl
+there_copied (Some a) = refl
+
+pub known_more : (ps : List (Option Peer)) (ks : List (Option Acquaintance)) (p : Peer) → AreKnown ps ks →
+    AreKnown (ps ++ Some p ∷ []) (with_nobody ks)
+known_more ps ks p known =
+    map-append is_some ks (Some nobody ∷ []) ∙ ap (λ l. l ++ true ∷ []) known
+    ∙ sym (map-append is_some ps (Some p ∷ []))
+
+pub known_added : {T E : Type 0} (r : Result T E) (ps qs : List (Option Peer)) (config : Config)
+    (ks ls : List (Option Acquaintance)) → OnOk r (qs ≡ with_new ps config) → OnErr r (qs ≡ ps) →
+    OnOk r (ls ≡ with_nobody ks) → OnErr r (ls ≡ ks) → AreKnown ps ks → AreKnown qs ls
+known_added (Ok v) ps qs config ks ls added unchanged more same known =
+    ap (map is_some) more ∙ known_more ps ks (new_peer config config.first_id) known ∙ sym (ap (map is_some) added)
+known_added (Err e) ps qs config ks ls added unchanged more same known =
+    ap (map is_some) same ∙ known ∙ sym (ap (map is_some) unchanged)
+
+pub known_fewer : (ps qs : List (Option Peer)) (ks : List (Option Acquaintance)) (i : ℕ) → AreKnown ps ks →
+    qs ≡ set ps i None → AreKnown qs (set ks i None)
+known_fewer ps qs ks i known is =
+    left_one ks i ∙ ap (λ l. set l i false) known ∙ sym (left_one ps i) ∙ sym (ap (map is_some) is)
+
+pub known_back : (ps qs : List (Option Peer)) (ks : List (Option Acquaintance)) (i : ℕ) → AreKnown ps ks →
+    qs ≡ set ps i (option_map set_back (peer_at ps i)) → AreKnown qs ks
+known_back ps qs ks i known is = known ∙ sym (same_changed set_back ps i) ∙ sym (ap (map is_some) is)
+
+pub known_all_back : (ps qs : List (Option Peer)) (ks : List (Option Acquaintance)) → AreKnown ps ks →
+    qs ≡ map (option_map set_back) ps → AreKnown qs ks
+known_all_back ps qs ks known is = known ∙ sym (same_each set_back ps) ∙ sym (ap (map is_some) is)
+
+-- What a neighbour was told.
+
+-- a host that is taken in was nobody before
+nobody_behind : (ps : List (Option Peer)) → peer_at ps (length ps) ≡ None
+nobody_behind [] = refl
+nobody_behind (x ∷ xs) = nobody_behind xs
+
+-- the state that was looked at is that of whom an event concerns, and Closed where it concerns nobody
+pub record IsStateOf (concerns : ℕ → Type 0) (ps : List (Option Peer)) (state : State) : Type 0 where
+  pub told : (i : ℕ) → concerns i → state ≡ peer_state (peer_at ps i)
+  pub nobody : ((i : ℕ) → concerns i → ⊥) → state ≡ Closed
+
+-- it is the one in which a neighbour was told octets
+state_moved : (policy : Policy) (c : Conn) (octets : List ℕ) (n : Node) (ps qs : List (Option Peer)) (i : ℕ)
+    (actions : List Action) (state : State) → IsStateOf (IsAddressed policy ps c octets) ps state →
+    NodeMoves policy c octets n ps (Some i) actions qs → state ≡ peer_state (peer_at ps i)
+state_moved policy c octets n ps qs i actions state looked (inl (concerned, told)) = looked.told i concerned
+state_moved policy c octets n ps qs i actions state looked (inr (config, permitted, joins)) =
+    looked.nobody permitted.unknown.nobody
+    ∙ sym (ap peer_state (ap (peer_at ps) joins.number ∙ nobody_behind ps))
+
+-- the peer behind it
+record IsBehind (qs : List (Option Peer)) (i : ℕ) : Type 0 where
+  after : Peer
+  is : peer_at qs i ≡ Some after
+
+moved_behind : (policy : Policy) (c : Conn) (octets : List ℕ) (n : Node) (ps qs : List (Option Peer)) (i : ℕ)
+    (actions : List Action) → NodeMoves policy c octets n ps (Some i) actions qs → IsBehind qs i
+moved_behind policy c octets n ps qs i actions (inl (concerned, told)) = record { after = told.after; is = told.is }
+moved_behind policy c octets n ps qs i actions (inr (config, permitted, joins)) =
+    record { after = joins.told.after; is = joins.told.is }
+
+-- The copy of a message.
+
+-- no octets are no CER or CEA
+pub nothing_spelled : spells_exchange [] ≡ false
+unfolding message_in
+nothing_spelled = refl
+
+none_copied : (b : Bool) → (b && spells_exchange []) ≡ true → ⊥
+none_copied true e = true≢false (sym e ∙ nothing_spelled)
+none_copied false e = true≢false (sym e)
+
+some : (x : ℕ) (m : List ℕ) → (length (x ∷ m) == 0) ≡ false
+some x m = grind (arith)
+
+-- what is known behind the copy is what is known behind the message
+copied : (is : Bool) (m : List ℕ) (c : Conn) (state : State) (q : Peer) (a : Acquaintance) →
+    is_exchange_to state m ≡ is → known_if_any (cond is m []) c state q a ≡ known_at c state q m a
+copied true [] c state q a e = absurd (none_copied (not (is_open state)) e)
+copied true (x ∷ m) c state q a e =
+    ap (λ b. cond b (known_after state q a) (known_by c state q (x ∷ m) a)) (some x m)
+    ∙ sym (ap (λ b. cond b (known_by c state q (x ∷ m) a) (known_after state q a)) e)
+copied false m c state q a e = sym (ap (λ b. cond b (known_by c state q m a) (known_after state q a)) e)
+
+met_copied : (octets exchange : List ℕ) (c : Conn) (before state : State) (q : Peer) →
+    exchange ≡ cond (is_exchange_to before octets) octets [] → before ≡ state → (a : Acquaintance) →
+    known_if_any exchange c before q a ≡ known_at c state q octets a
+met_copied octets exchange c before state q is same a =
+    ap (λ l. known_if_any l c before q a) is ∙ copied (is_exchange_to before octets) octets c before q a refl
+    ∙ ap (λ s. known_at c s q octets a) same
+
+-- whom a message met
+pub meets : (policy : Policy) (c : Conn) (octets : List ℕ) (n : Node) (ps qs : List (Option Peer)) (who : Option ℕ)
+    (actions : List Action) (ks js ls : List (Option Acquaintance)) (before : State) (exchange : List ℕ) →
+    IsStateOf (IsAddressed policy ps c octets) ps before → exchange ≡ cond (is_exchange_to before octets) octets [] →
+    js ≡ ks → NodeMoves policy c octets n ps who actions qs →
+    ((i : ℕ) (q : Peer) → who ≡ Some i → peer_at qs i ≡ Some q →
+    ls ≡ with_known i (known_if_any exchange c before q) (given_place i js)) → (who ≡ None → ls ≡ js) →
+    MeetsAny (λ state q a. known_at c state q octets a) who ps qs ks ls
+meets policy c octets n ps qs None actions ks js ls before exchange looked is same moved met unmet = unmet refl ∙ same
+meets policy c octets n ps qs (Some i) actions ks js ls before exchange looked is same moved met unmet =
+    let behind = moved_behind policy c octets n ps qs i actions moved in
+    let q = behind.after in
+    let state = peer_state (peer_at ps i) in
+    let begun = state_moved policy c octets n ps qs i actions before looked moved in
+    let known : (λ a. known_if_any exchange c before q a) ≡ (λ a. known_at c state q octets a) =
+    fun_ext (λ a. met_copied octets exchange c before state q is begun a) in
+    record {
+      after = q;
+      is = behind.is;
+      changed = met i q refl behind.is ∙ ap (λ f. with_known i f (given_place i js)) known
+          ∙ ap (λ l. with_known i (λ a. known_at c state q octets a) (given_place i l)) same;
+    }
+
+-- and the places are those of the neighbours behind it
+pub known_moved : (known : State → Peer → Acquaintance → Acquaintance) (policy : Policy) (c : Conn) (octets : List ℕ)
+    (n : Node) (ps qs : List (Option Peer)) (who : Option ℕ) (actions : List Action)
+    (ks ls : List (Option Acquaintance)) → AreKnown ps ks → NodeMoves policy c octets n ps who actions qs →
+    MeetsAny known who ps qs ks ls → AreKnown qs ls
+known_moved known policy c octets n ps qs None actions ks ls there moved same =
+    ap (map is_some) same ∙ there ∙ sym (ap (map is_some) (peers_stay policy c octets n ps qs actions moved.1))
+known_moved known policy c octets n ps qs (Some i) actions ks ls there (inl (concerned, told)) met =
+    let change = known (peer_state (peer_at ps i)) met.after in
+    ap (map is_some) (met.changed ∙ ap (with_known i change) (placed ps ks i told.before there told.was))
+    ∙ same_changed change ks i ∙ there ∙ sym (told_there ps qs i (Arrived c octets) actions told)
+known_moved known policy c octets n ps qs (Some i) actions ks ls there (inr (config, permitted, joins)) met =
+    let change = known (peer_state (peer_at ps i)) met.after in
+    ap (map is_some) (met.changed ∙ ap (with_known i change) (placed_behind ps ks i there joins.number))
+    ∙ same_changed change (with_nobody ks) i ∙ known_more ps ks (new_peer config config.first_id) there
+    ∙ sym (told_there (with_new ps config) qs i (Arrived c octets) actions joins.told)
+
+-- who calls sends a CER
+called_in : (o : Option Message) (call : Caller) → caller_in o ≡ Some call → is_some (exchange_of o) ≡ true
+called_in None call is = absurd (true≢false (sym (ap is_some is)))
+called_in (Some m) call is =
+    by (nat_eq m.header.command capabilities_exchange) m.header.request
+    (option_map (λ host. (m.header, host)) (calling_host m.avps)) is
+  where
+    by : (b r : Bool) (o : Option Caller) → cond (b && r) o None ≡ Some call → is_some (cond b (Some m) None) ≡ true
+    by true r o e = refl
+    by false r o e = absurd (true≢false (sym (ap is_some e)))
+
+one_of : (i j : ℕ) → Some i ≡ Some j → i ≡ j
+one_of i j e = grind arith
+
+-- there is room for a place more where one is taken in
+pub room_for : (policy : Policy) (c : Conn) (octets : List ℕ) (n : Node) (ps qs : List (Option Peer)) (who : Option ℕ)
+    (actions : List Action) (ks : List (Option Acquaintance)) (before : State) (i : ℕ) → AreKnown ps ks →
+    IsStateOf (IsAddressed policy ps c octets) ps before → NodeMoves policy c octets n ps who actions qs →
+    who ≡ Some i → nat_lt i (length ks) ≡ false → is_exchange_to before octets ≡ true
+room_for policy c octets n ps qs None actions ks before i there looked moved is none =
+    absurd (true≢false (sym (ap is_some is)))
+room_for policy c octets n ps qs (Some j) actions ks before i there looked (inl (concerned, told)) is none =
+    absurd (true≢false (sym (has_place ps ks j told.before there told.was)
+    ∙ ap (λ k. nat_lt k (length ks)) (one_of j i is) ∙ none))
+room_for policy c octets n ps qs (Some j) actions ks before i there looked (inr (config, permitted, joins)) is none =
+    let stranger = permitted.unknown in
+    ap (λ s. is_exchange_to s octets) (looked.nobody stranger.nobody)
+    ∙ called_in (message_in octets) stranger.call stranger.calls
+
+-- what is copied is an exchange, and concerns nobody who is open
+pub is_copied : (policy : Policy) (c : Conn) (octets : List ℕ) (ps : List (Option Peer)) (before : State) →
+    IsStateOf (IsAddressed policy ps c octets) ps before → is_exchange_to before octets ≡ true →
+    IsCopied policy c octets ps
+is_copied policy c octets ps before looked is =
+    let parts = and_parts (not (is_open before)) (spells_exchange octets) is in
+    record {
+      exchange = parts.1;
+      unopened = λ i concerned. sym (ap is_open (looked.told i concerned)) ∙ not-true (is_open before) parts.0;
+    }
+
+-- no octets are nobody's CER
+calls_none : caller_of [] ≡ None
+unfolding message_in
+calls_none = refl
+
+pub none_calls : IsSome (caller_of []) → ⊥
+none_calls called = true≢false (sym (subst (λ o. IsSome o) calls_none called))
+
+-- What brings no message of a stranger.
+
+pub told_event : (policy : Policy) (e : NodeEvent) (n : Node) (ps qs : List (Option Peer)) (i : ℕ) (actions : List Action) →
+    (IsStrangeCer e → ⊥) → NodeIsTold policy e n ps (Some i) actions qs →
+    Concerns policy ps e i × PeerIsTold ps qs i (told_of e) actions
+told_event policy (event.Arrived c octets) n ps qs i actions calm (inl told) = told
+told_event policy (event.Arrived c octets) n ps qs i actions calm (inr (config, permitted, joins)) =
+    absurd (calm (subst (λ o. IsSome o) (sym permitted.unknown.calls) refl))
+told_event policy (event.Start m c) n ps qs i actions calm told = told
+told_event policy (event.Stop m cause) n ps qs i actions calm told = told
+told_event policy (event.Timeout m) n ps qs i actions calm told = told
+told_event policy (event.Tick m) n ps qs i actions calm told = told
+told_event policy (event.Submit m octets) n ps qs i actions calm told = told
+told_event policy (event.Ack c) n ps qs i actions calm told = told
+told_event policy (event.Nack c) n ps qs i actions calm told = told
+told_event policy (event.Gone c) n ps qs i actions calm told = told
+
+pub untold_event : (policy : Policy) (e : NodeEvent) (n : Node) (ps qs : List (Option Peer)) (actions : List Action) →
+    NodeIsTold policy e n ps None actions qs → qs ≡ ps
+untold_event policy (event.Arrived c octets) n ps qs actions m = peers_stay policy c octets.now n ps qs actions m.1
+untold_event policy (event.Start i c) n ps qs actions m = m.2
+untold_event policy (event.Stop i cause) n ps qs actions m = m.2
+untold_event policy (event.Timeout i) n ps qs actions m = m.2
+untold_event policy (event.Tick i) n ps qs actions m = m.2
+untold_event policy (event.Submit i octets) n ps qs actions m = m.2
+untold_event policy (event.Ack c) n ps qs actions m = m.2
+untold_event policy (event.Nack c) n ps qs actions m = m.2
+untold_event policy (event.Gone c) n ps qs actions m = m.2
+
+-- whom such an event met
+pub meets_after : (policy : Policy) (e : NodeEvent) (n : Node) (ps qs : List (Option Peer)) (who : Option ℕ)
+    (actions : List Action) (ks ls : List (Option Acquaintance)) (before : State) → (IsStrangeCer e → ⊥) →
+    IsStateOf (Concerns policy ps e) ps before → AreKnown ps ks → NodeIsTold policy e n ps who actions qs →
+    ((i : ℕ) (q : Peer) → who ≡ Some i → peer_at qs i ≡ Some q → ls ≡ with_known i (known_after before q) ks) →
+    (who ≡ None → ls ≡ ks) → MeetsAny known_after who ps qs ks ls
+meets_after policy e n ps qs None actions ks ls before calm looked there moved met unmet = unmet refl
+meets_after policy e n ps qs (Some i) actions ks ls before calm looked there moved met unmet =
+    let told = told_event policy e n ps qs i actions calm moved in
+    let q = told.1.after in
+    record {
+      after = q;
+      is = told.1.is;
+      changed = met i q refl told.1.is
+          ∙ ap (λ s. with_known i (known_after s q) ks) (looked.told i told.0)
+          ∙ sym (ap (with_known i (known_after (peer_state (peer_at ps i)) q))
+          (placed ps ks i told.1.before there told.1.was));
+    }
+
+pub known_told : (known : State → Peer → Acquaintance → Acquaintance) (policy : Policy) (e : NodeEvent) (n : Node)
+    (ps qs : List (Option Peer)) (who : Option ℕ) (actions : List Action) (ks ls : List (Option Acquaintance)) →
+    (IsStrangeCer e → ⊥) → AreKnown ps ks → NodeIsTold policy e n ps who actions qs →
+    MeetsAny known who ps qs ks ls → AreKnown qs ls
+known_told known policy e n ps qs None actions ks ls calm there moved same =
+    ap (map is_some) same ∙ there ∙ sym (ap (map is_some) (untold_event policy e n ps qs actions moved))
+known_told known policy e n ps qs (Some i) actions ks ls calm there moved met =
+    let told = told_event policy e n ps qs i actions calm moved in
+    let change = known (peer_state (peer_at ps i)) met.after in
+    ap (map is_some) (met.changed ∙ ap (with_known i change) (placed ps ks i told.1.before there told.1.was))
+    ∙ same_changed change ks i ∙ there ∙ sym (told_there ps qs i (told_of e) actions told.1)
+
+-- What is done behind it.
+
+-- whom it met stays known where the neighbours stay
+pub met_settled : (known : State → Peer → Acquaintance → Acquaintance) (who : Option ℕ)
+    (ps qs rs : List (Option Peer)) (ks ls js : List (Option Acquaintance)) → rs ≡ qs → js ≡ ls →
+    MeetsAny known who ps qs ks ls → MeetsAny known who ps rs ks js
+met_settled known who ps qs rs ks ls js same is met =
+    subst (λ l. MeetsAny known who ps rs ks l) (sym is) (subst (λ l. MeetsAny known who ps l ks ls) (sym same) met)
+
+pub after_moved : (asks : Option NodeAnswer) (s m t : NodeState) (ks ls js : List (Option Acquaintance)) →
+    t.peers ≡ m.peers → js ≡ ls → KnownAfterOrder asks s m ks ls → KnownAfterOrder asks s t ks js
+after_moved None s m t ks ls js same is met = is ∙ met
+after_moved (Some answer) s m t ks ls js same is met =
+    met_settled known_after answer.neighbour s.peers m.peers t.peers ks ls js same is met
+
+-- and where they stayed before it
+pub after_opened : (asks : Option NodeAnswer) (s o t : NodeState) (ks js ls : List (Option Acquaintance)) →
+    o.peers ≡ s.peers → js ≡ ks → KnownAfterOrder asks o t js ls → KnownAfterOrder asks s t ks ls
+after_opened None s o t ks js ls same is met = met ∙ is
+after_opened (Some answer) s o t ks js ls same is met =
+    subst (λ l. MeetsAny known_after answer.neighbour s.peers t.peers l ls) is
+    (subst (λ l. MeetsAny known_after answer.neighbour l t.peers js ls) same met)
+
+-- a connection that is shut leaves the neighbours as they are
+pub unheld_peers : (c : Conn) (s t : NodeState) → ShutsUnheld c s t → t.peers ≡ s.peers
+unheld_peers c s t (inl (i, held, same)) = ap (λ (v : NodeState). v.peers) same
+unheld_peers c s t (inr (free, is)) = ap (λ (v : NodeState). v.peers) is

@@ -1,0 +1,357 @@
+-- What came on a node's connection is told out in one way.
+use Rattle.std.proofs.Common.{◌≡◌, inl, inr, ℕ, Bool, true, false, nat_eq, Option, None, Some, IfSome, unwrap_or, List, [], ◌∷◌, ◌++◌, length, refl, sym, ap, ◌∙◌, subst}
+use Rattle.std.specs.List.{concat}
+use Rattle.std.proofs.lemmas.Bool.{eqb-true}
+use Rattle.dm_base.specs.declared.node.Node.{Node}
+use Rattle.dm_base.specs.Before.{lower}
+use Rattle.dm_framer.specs.Laws.{OneFront, FrameOrFault, FaultStands}
+use Rattle.dm_framer.specs.Frames.{HasFault}
+use Rattle.dm_history.specs.History.{new_peer}
+use Rattle.dm_machine.specs.declared.connection.Conn.{Conn}
+use Rattle.dm_node.specs.Adding.{with_new}
+use Rattle.dm_node.specs.Holding.{peer_at, holds_it, holds_at, host_of, host_at, AreApart, AreUnlike}
+use Rattle.dm_node.specs.Neighbourhoods.{IsNeighbourhood}
+use Rattle.dm_node.specs.Policies.{Policy}
+use Rattle.dm_node.specs.Strangers.{IsPermitted, NodeMoves}
+use Rattle.dm_node.specs.Telling.{IsAddressed, PeerIsTold}
+use Rattle.dm_peer.specs.declared.actions.Action.{Action}
+use Rattle.dm_peer.specs.declared.config.Config.{Config}
+use Rattle.dm_peer.specs.declared.peer.Peer.{Peer}
+use Rattle.dm_peer.specs.Acts.{Moved, acts}
+use Rattle.dm_peer.specs.Events.{PeerEvent, Arrived}
+use Rattle.dm_peer.specs.Holding.{holds}
+use Rattle.dm_peer.specs.Settled.{IsSettled, LeavesSettled}
+use Rattle.dm_peer.specs.Steps.{EachEventIsOneStep, Follows}
+use Rattle.dm_slots.specs.Intakes.{Intake, IsFirst, IsFaulty, IsToldOut, with_intake, broken_intake}
+use Rattle.dm_node.specs.NodeLaws.{AreSoundNeighbours}
+use Rattle.dm_node.specs.NodeStreams.{NodeTellsAlong, NodeTellsPieces}
+use Rattle.dm_node.specs.NodeStates.{NodeState, NodeAnswer, NodeTurn, NodeTellsOctets, NodeTellsMessage, NodeTellsFault, NodeTellsAs, NodeIsOut, node_fed, node_settled, with_node_intakes}
+use Rattle.dm_node.proofs.Newcomers.{PeerLaws, takes_named, last_at, stranger_free, peers_stay}
+use Rattle.dm_node.proofs.NodeCuts.{cuts_alike, fed_nothing}
+use Rattle.dm_node.proofs.NodeEmptying.{grown}
+use Rattle.dm_node.proofs.NodeMoving.{two_truths, unlike}
+use Rattle.dm_node.proofs.OneMove.{one_addressed, moves_once}
+
+-- what the laws of telling rest on
+pub record Wholly (ps : List (Option Peer)) : Type 0 where
+  pub neighbourhood : IsNeighbourhood ps
+  pub settled : (i : ℕ) (p : Peer) → peer_at ps i ≡ Some p → IsSettled p
+
+pub wholly : (ps : List (Option Peer)) → AreSoundNeighbours ps → Wholly ps
+wholly ps sound = record {
+  neighbourhood = sound.neighbourhood;
+  settled = λ i p at. (sound.kept i p at).settled;
+}
+
+same_answer : (a b : NodeAnswer) → a.neighbour ≡ b.neighbour → a.actions ≡ b.actions → a ≡ b
+same_answer a b neighbour actions =
+    ap (λ w. of w a.actions) neighbour ∙ ap (λ l. of b.neighbour l) actions
+  where
+    of : Option ℕ → List Action → NodeAnswer
+    of w l = record { neighbour = w; actions = l }
+
+-- octets are told in one way
+tells_once : (policy : Policy) (c : Conn) (octets : List ℕ) (s r t u : NodeState) (a b : NodeAnswer) →
+    IsNeighbourhood s.peers → s ≡ r → NodeTellsOctets policy c octets s a t → NodeTellsOctets policy c octets r b u →
+    (a ≡ b) × (t ≡ u)
+tells_once policy c octets s r t u a b sound same h k =
+    let also : NodeTellsOctets policy c octets s b u =
+    subst (λ v. NodeTellsOctets policy c octets v b u) (sym same) k in
+    let one = moves_once policy c octets s.node s.peers h.peers also.peers a b sound a.neighbour b.neighbour refl refl
+    h.moved also.moved in
+    let answer = same_answer a b one.neighbour one.actions in (
+      answer,
+      h.left ∙ ap (λ (v : NodeAnswer). node_settled v.neighbour h.peers v.actions s) answer
+          ∙ ap (λ l. node_settled b.neighbour l b.actions s) one.peers ∙ sym also.left,
+    )
+
+-- one intake is there
+one_there : (o : Option Intake) (i j : Intake) → o ≡ Some i → o ≡ Some j → i ≡ j
+one_there o i j e d = ap (λ v. unwrap_or v i) (sym e ∙ d)
+
+-- the session with what is left of an intake
+abbrev with_rest : Conn → NodeState → Intake → List ℕ → NodeState
+with_rest c s i rest = with_node_intakes (with_intake c.0 (Some (record i { octets = rest })) s.intakes) s
+
+abbrev with_broken : Conn → NodeState → Intake → NodeState
+with_broken c s i = with_node_intakes (with_intake c.0 (Some (broken_intake i)) s.intakes) s
+
+message_once : OneFront → (policy : Policy) (c : Conn) (s t u : NodeState) (a b : NodeAnswer) →
+    IsNeighbourhood s.peers → NodeTellsMessage policy c s a t → NodeTellsMessage policy c s b u → (a ≡ b) × (t ≡ u)
+message_once front policy c s t u a b sound h k =
+    let same = one_there (s.intakes c.0) h.intake k.intake h.there k.there in
+    let first : IsFirst h.intake k.message k.rest = subst (λ i. IsFirst i k.message k.rest) (sym same) k.first in
+    let one = front h.intake.max h.message k.message h.rest k.rest h.first.frame first.frame
+    (sym h.first.octets ∙ first.octets) in
+    let told : NodeTellsOctets policy c h.message (with_rest c s k.intake k.rest) b u =
+    subst (λ m. NodeTellsOctets policy c m (with_rest c s k.intake k.rest) b u) (sym one.0) k.told in
+    tells_once policy c h.message (with_rest c s h.intake h.rest) (with_rest c s k.intake k.rest) t u a b sound
+    (ap (with_rest c s h.intake) one.1 ∙ ap (λ i. with_rest c s i k.rest) same) h.told told
+
+fault_once : (policy : Policy) (c : Conn) (s t u : NodeState) (a b : NodeAnswer) → IsNeighbourhood s.peers →
+    NodeTellsFault policy c s a t → NodeTellsFault policy c s b u → (a ≡ b) × (t ≡ u)
+fault_once policy c s t u a b sound h k =
+    let same = one_there (s.intakes c.0) h.intake k.intake h.there k.there in
+    tells_once policy c [] (with_broken c s h.intake) (with_broken c s k.intake) t u a b sound
+    (ap (with_broken c s) same) h.told k.told
+
+message_or_fault : FrameOrFault → (policy : Policy) (c : Conn) (s t u : NodeState) (a b : NodeAnswer) →
+    NodeTellsMessage policy c s a t → NodeTellsFault policy c s b u → ⊥
+message_or_fault either policy c s t u a b h k =
+    let same = one_there (s.intakes c.0) h.intake k.intake h.there k.there in
+    let faulty : IsFaulty h.intake = subst (λ i. IsFaulty i) (sym same) k.faulty in
+    either h.intake.max h.message h.rest faulty.fault.0 h.first.frame
+    (subst (λ l. HasFault h.intake.max l faulty.fault.0) h.first.octets faulty.fault.1)
+
+-- one turn
+pub record SameTurn (x y : Option Conn) (a b : NodeAnswer) (t u : NodeState) : Type 0 where
+  pub arrived : x ≡ y
+  pub answer : a ≡ b
+  pub left : t ≡ u
+
+next_once : OneFront → FrameOrFault → (policy : Policy) (x y : Option Conn) (c : Conn) (s t u : NodeState)
+    (a b : NodeAnswer) → IsNeighbourhood s.peers → NodeTellsAs policy x c s a t → NodeTellsAs policy y c s b u →
+    SameTurn x y a b t u
+next_once front either policy None None c s t u a b sound h k =
+    let one = fault_once policy c s t u a b sound h k in record { arrived = refl; answer = one.0; left = one.1 }
+next_once front either policy None (Some e) c s t u a b sound h k =
+    absurd (message_or_fault either policy c s u t b a k.1 h)
+next_once front either policy (Some d) None c s t u a b sound h k =
+    absurd (message_or_fault either policy c s t u a b h.1 k)
+next_once front either policy (Some d) (Some e) c s t u a b sound h k =
+    let one = message_once front policy c s t u a b sound h.1 k.1 in
+    record { arrived = ap (λ v. Some v) (h.0 ∙ sym k.0); answer = one.0; left = one.1 }
+
+-- where all is told no turn is left
+out_tells_nothing : (policy : Policy) (x : Option Conn) (c : Conn) (s t : NodeState) (a : NodeAnswer) →
+    NodeIsOut c s → NodeTellsAs policy x c s a t → ⊥
+out_tells_nothing policy None c s t a out h =
+    let told : IsToldOut h.intake = subst (λ o. IfSome o IsToldOut) h.there out in
+    (told h.faulty.whole).no_fault h.faulty.fault.0 h.faulty.fault.1
+out_tells_nothing policy (Some d) c s t a out h =
+    let told : IsToldOut h.1.intake = subst (λ o. IfSome o IsToldOut) h.1.there out in
+    (told h.1.first.whole).no_frame h.1.message h.1.rest h.1.first.frame h.1.first.octets
+
+one_some : (p q : Peer) → Some p ≡ Some q → p ≡ q
+one_some p q e = cc
+
+config_stays : EachEventIsOneStep → (p q : Peer) (e : PeerEvent) (actions : List Action) → acts p e ≡ Moved actions q →
+    q.config ≡ p.config
+config_stays step p q e actions is =
+    elim (subst (Follows p e) is (step p e)) [
+      | inl s ↦ s.config
+      | inr d ↦ ap (λ (x : Peer). x.config) d.same
+    ]
+
+-- behind octets no connection is held by two
+apart_told : PeerLaws → (policy : Policy) (c : Conn) (s : List ℕ) (ps qs : List (Option Peer)) (i : ℕ)
+    (actions : List Action) → Wholly ps → IsAddressed policy ps c s i → PeerIsTold ps qs i (Arrived c s) actions →
+    AreApart qs
+apart_told laws policy c s ps qs i actions sound at told = record {
+  one = λ j k d h g. by j k d h g (nat_eq j i) refl (nat_eq k i) refl;
+}
+  where
+    here : (j : ℕ) → nat_eq j i ≡ true → peer_at qs j ≡ Some told.after
+    here j same = ap (peer_at qs) (eqb-true j i same) ∙ told.is
+
+    before : (j : ℕ) (d : Conn) → nat_eq j i ≡ false → holds_at qs d j ≡ true → holds_at ps d j ≡ true
+    before j d other held = sym (ap (holds_it d) (told.others j (unlike j i other))) ∙ held
+
+    cross : (j : ℕ) (d : Conn) → nat_eq j i ≡ false → holds_at ps d j ≡ true → holds d told.after ≡ true →
+        (b : Bool) → holds d told.before ≡ b → (n : Bool) → nat_eq c.0 d.0 ≡ n → ⊥
+    cross j d other held now true was n named =
+        unlike j i other (sound.neighbourhood.apart.one j i d held (ap (holds_it d) told.was ∙ was))
+    cross j d other held now false was true named =
+        let same : c ≡ d = ap (λ m. record { 0 = m }) (eqb-true c.0 d.0 named) in
+        unlike j i other (one_addressed policy ps c s j i sound.neighbourhood
+        (inl (subst (λ x. holds_at ps x j ≡ true) (sym same) held)) at)
+    cross j d other held now false was false named =
+        two_truths (holds d told.after) now
+        (takes_named laws.step laws.alone told.before told.after c s actions
+        (sound.settled i told.before told.was).shaped told.acts d named was)
+
+    by : (j k : ℕ) (d : Conn) → holds_at qs d j ≡ true → holds_at qs d k ≡ true → (x : Bool) → nat_eq j i ≡ x →
+        (y : Bool) → nat_eq k i ≡ y → j ≡ k
+    by j k d h g true same true also = eqb-true j i same ∙ sym (eqb-true k i also)
+    by j k d h g true same false other =
+        absurd (cross k d other (before k d other g) (sym (ap (holds_it d) (here j same)) ∙ h) _ refl _ refl)
+    by j k d h g false other true same =
+        absurd (cross j d other (before j d other h) (sym (ap (holds_it d) (here k same)) ∙ g) _ refl _ refl)
+    by j k d h g false other false also =
+        sound.neighbourhood.apart.one j k d (before j d other h) (before k d also g)
+
+-- and no two have one host
+hosts_stay : PeerLaws → (e : PeerEvent) (ps qs : List (Option Peer)) (i : ℕ) (actions : List Action) →
+    PeerIsTold ps qs i e actions → (j : ℕ) → host_at qs j ≡ host_at ps j
+hosts_stay laws e ps qs i actions told j = by (nat_eq j i) refl
+  where
+    by : (b : Bool) → nat_eq j i ≡ b → host_at qs j ≡ host_at ps j
+    by true same =
+        ap (λ k. host_at qs k) (eqb-true j i same) ∙ ap host_of told.is
+        ∙ ap (λ (k : Config). Some (lower k.peer)) (config_stays laws.step told.before told.after e actions told.acts)
+        ∙ sym (ap (λ k. host_at ps k) (eqb-true j i same) ∙ ap host_of told.was)
+    by false other = ap host_of (told.others j (unlike j i other))
+
+unlike_told : PeerLaws → (e : PeerEvent) (ps qs : List (Option Peer)) (i : ℕ) (actions : List Action) → AreUnlike ps →
+    PeerIsTold ps qs i e actions → AreUnlike qs
+unlike_told laws e ps qs i actions apart told = record {
+  one = λ j k host h g.
+      apart.one j k host (sym (hosts_stay laws e ps qs i actions told j) ∙ h)
+      (sym (hosts_stay laws e ps qs i actions told k) ∙ g);
+}
+
+settled_told : PeerLaws → (e : PeerEvent) (ps qs : List (Option Peer)) (i : ℕ) (actions : List Action) → Wholly ps →
+    PeerIsTold ps qs i e actions → (j : ℕ) (p : Peer) → peer_at qs j ≡ Some p → IsSettled p
+settled_told laws e ps qs i actions sound told j p at = by (nat_eq j i) refl
+  where
+    after : IsSettled told.after
+    after = subst LeavesSettled told.acts (laws.settled told.before e (sound.settled i told.before told.was))
+
+    by : (b : Bool) → nat_eq j i ≡ b → IsSettled p
+    by true same =
+        subst IsSettled (one_some told.after p (sym told.is ∙ sym (ap (peer_at qs) (eqb-true j i same)) ∙ at)) after
+    by false other = sound.settled j p (sym (told.others j (unlike j i other)) ∙ at)
+
+wholly_told : PeerLaws → (policy : Policy) (c : Conn) (s : List ℕ) (ps qs : List (Option Peer)) (i : ℕ)
+    (actions : List Action) → Wholly ps → IsAddressed policy ps c s i → PeerIsTold ps qs i (Arrived c s) actions →
+    Wholly qs
+wholly_told laws policy c s ps qs i actions sound at told = record {
+  neighbourhood = record {
+    apart = apart_told laws policy c s ps qs i actions sound at told;
+    unlike = unlike_told laws (Arrived c s) ps qs i actions sound.neighbourhood.unlike told;
+  };
+  settled = settled_told laws (Arrived c s) ps qs i actions sound told;
+}
+
+-- where a host is added that nobody has
+no_such_host : (policy : Policy) (ps : List (Option Peer)) (c : Conn) (octets : List ℕ) (k : Config) →
+    IsPermitted policy ps c octets k → (j : ℕ) → host_at ps j ≡ Some (lower k.peer) → ⊥
+no_such_host policy ps c octets k h j is =
+    h.unknown.nobody j (inr (
+      stranger_free policy ps c octets h.unknown.nobody,
+      inl (
+        h.unknown.call,
+        h.unknown.calls,
+        is ∙ sym (ap (λ (host : List ℕ). Some (lower host)) h.unknown.named),
+      ),
+    ))
+
+wholly_added : PeerLaws → (policy : Policy) (ps : List (Option Peer)) (c : Conn) (octets : List ℕ) (k : Config) →
+    Wholly ps → IsPermitted policy ps c octets k → Wholly (with_new ps k)
+wholly_added laws policy ps c octets k sound permitted = record {
+  neighbourhood = record {
+    apart = record {
+      one = λ i j d h g.
+          elim (grown ps (Some (new_peer k k.first_id)) i) [
+            | inl a ↦ elim (grown ps (Some (new_peer k k.first_id)) j) [
+              | inl b ↦
+                  sound.neighbourhood.apart.one i j d (sym (ap (holds_it d) a) ∙ h) (sym (ap (holds_it d) b) ∙ g)
+              | inr b ↦ absurd (two_truths (holds_at (with_new ps k) d j) g (ap (holds_it d) b.1))
+            ]
+            | inr a ↦ absurd (two_truths (holds_at (with_new ps k) d i) h (ap (holds_it d) a.1))
+          ];
+    };
+    unlike = record {
+      one = λ i j host h g.
+          elim (grown ps (Some (new_peer k k.first_id)) i) [
+            | inl a ↦ elim (grown ps (Some (new_peer k k.first_id)) j) [
+              | inl b ↦ sound.neighbourhood.unlike.one i j host (sym (ap host_of a) ∙ h) (sym (ap host_of b) ∙ g)
+              | inr b ↦ absurd (unlike_it i (sym (ap host_of a) ∙ h ∙ sym g ∙ ap host_of b.1))
+            ]
+            | inr a ↦ elim (grown ps (Some (new_peer k k.first_id)) j) [
+              | inl b ↦ absurd (unlike_it j (sym (ap host_of b) ∙ g ∙ sym h ∙ ap host_of a.1))
+              | inr b ↦ a.0 ∙ sym b.0
+            ]
+          ];
+    };
+  };
+  settled = λ i p at.
+      elim (grown ps (Some (new_peer k k.first_id)) i) [
+        | inl a ↦ sound.settled i p (sym a ∙ at)
+        | inr a ↦ subst IsSettled (one_some (new_peer k k.first_id) p (sym a.1 ∙ at)) (laws.fresh k k.first_id)
+      ];
+}
+  where
+    unlike_it : (j : ℕ) → host_at ps j ≡ Some (lower k.peer) → ⊥
+    unlike_it = no_such_host policy ps c octets k permitted
+
+-- its CER concerns it then
+added_is_addressed : (policy : Policy) (ps : List (Option Peer)) (c : Conn) (octets : List ℕ) (k : Config) (i : ℕ) →
+    IsPermitted policy ps c octets k → i ≡ length ps → IsAddressed policy (with_new ps k) c octets i
+added_is_addressed policy ps c octets k i h here =
+    inr (
+      λ j. elim (grown ps (Some (new_peer k k.first_id)) j) [
+        | inl a ↦ ap (holds_it c) a ∙ stranger_free policy ps c octets h.unknown.nobody j
+        | inr a ↦ ap (holds_it c) a.1
+      ],
+      inl (
+        h.unknown.call,
+        h.unknown.calls,
+        ap (host_at (with_new ps k)) here ∙ ap host_of (last_at ps (Some (new_peer k k.first_id)))
+            ∙ sym (ap (λ (host : List ℕ). Some (lower host)) h.unknown.named),
+      ),
+    )
+
+moved_wholly : PeerLaws → (policy : Policy) (c : Conn) (s : List ℕ) (n : Node) (ps qs : List (Option Peer))
+    (who : Option ℕ) (actions : List Action) → Wholly ps → NodeMoves policy c s n ps who actions qs → Wholly qs
+moved_wholly laws policy c s n ps qs (Some i) actions sound (inl m) =
+    wholly_told laws policy c s ps qs i actions sound m.0 m.1
+moved_wholly laws policy c s n ps qs (Some i) actions sound (inr (k, permitted, joins)) =
+    wholly_told laws policy c s (with_new ps k) qs i actions (wholly_added laws policy ps c s k sound permitted)
+    (added_is_addressed policy ps c s k i permitted joins.number) joins.told
+moved_wholly laws policy c s n ps qs None actions sound m =
+    subst Wholly (sym (peers_stay policy c s n ps qs actions m.1)) sound
+
+told_wholly : PeerLaws → (policy : Policy) (c : Conn) (octets : List ℕ) (s t : NodeState) (a : NodeAnswer) →
+    Wholly s.peers → NodeTellsOctets policy c octets s a t → Wholly t.peers
+told_wholly laws policy c octets s t a sound h =
+    subst (λ (v : NodeState). Wholly v.peers) (sym h.left)
+    (moved_wholly laws policy c octets s.node s.peers h.peers a.neighbour a.actions sound h.moved)
+
+next_wholly : PeerLaws → (policy : Policy) (x : Option Conn) (c : Conn) (s t : NodeState) (a : NodeAnswer) →
+    Wholly s.peers → NodeTellsAs policy x c s a t → Wholly t.peers
+next_wholly laws policy None c s t a sound h =
+    told_wholly laws policy c [] (with_broken c s h.intake) t a sound h.told
+next_wholly laws policy (Some d) c s t a sound h =
+    told_wholly laws policy c h.1.message (with_rest c s h.1.intake h.1.rest) t a sound h.1.told
+
+same_turn : (turn other : NodeTurn) → turn.arrived ≡ other.arrived → turn.answer ≡ other.answer → turn ≡ other
+same_turn turn other arrived answer = ap (λ x. of x turn.answer) arrived ∙ ap (λ l. of other.arrived l) answer
+  where
+    of : Option Conn → NodeAnswer → NodeTurn
+    of x l = record { arrived = x; answer = l }
+
+pub told_out_once : OneFront → FrameOrFault → PeerLaws → (policy : Policy) (c : Conn) (s t u : NodeState)
+    (turns others : List NodeTurn) → Wholly s.peers → NodeTellsAlong policy c s turns t → NodeIsOut c t →
+    NodeTellsAlong policy c s others u → NodeIsOut c u → (turns ≡ others) × (t ≡ u)
+told_out_once front either laws policy c s t u [] [] sound h out k also = (refl, sym h ∙ k)
+told_out_once front either laws policy c s t u [] (other ∷ others) sound h out k also =
+    absurd (out_tells_nothing policy other.arrived c s k.0 other.answer (subst (λ v. NodeIsOut c v) (sym h) out) k.1)
+told_out_once front either laws policy c s t u (turn ∷ turns) [] sound h out k also =
+    absurd (out_tells_nothing policy turn.arrived c s h.0 turn.answer (subst (λ v. NodeIsOut c v) (sym k) also) h.1)
+told_out_once front either laws policy c s t u (turn ∷ turns) (other ∷ others) sound h out k also =
+    let one = next_once front either policy turn.arrived other.arrived c s h.0 k.0 turn.answer other.answer
+    sound.neighbourhood h.1 k.1 in
+    let rest = told_out_once front either laws policy c k.0 t u turns others
+    (next_wholly laws policy other.arrived c s k.0 other.answer sound k.1)
+    (subst (λ v. NodeTellsAlong policy c v turns t) one.left h.2) out k.2 also in
+    (ap (λ x. x ∷ turns) (same_turn turn other one.arrived one.answer) ∙ ap (λ l. other ∷ l) rest.0, rest.1)
+
+-- the pieces are a telling of the whole
+pieces_along : FaultStands → (policy : Policy) (c : Conn) (pieces : List (List ℕ)) (s t : NodeState)
+    (turns : List NodeTurn) → NodeTellsPieces policy c s pieces turns t →
+    NodeTellsAlong policy c (node_fed c (concat pieces) s) turns t
+pieces_along stands policy c [] s t turns h =
+    subst (λ l. NodeTellsAlong policy c (node_fed c [] s) l t) (sym h.0) (fed_nothing c s ∙ h.1)
+pieces_along stands policy c (piece ∷ pieces) s t turns h =
+    subst (λ l. NodeTellsAlong policy c (node_fed c (piece ++ concat pieces) s) l t) (sym h.3)
+    (cuts_alike stands policy c piece (concat pieces) s h.2 t h.0 h.1 h.4
+    (pieces_along stands policy c pieces h.2 t h.1 h.5))
+
+pub pieces_told_out : OneFront → FrameOrFault → FaultStands → PeerLaws → (policy : Policy) (c : Conn)
+    (pieces : List (List ℕ)) (s t u : NodeState) (turns whole : List NodeTurn) → Wholly s.peers →
+    NodeTellsPieces policy c s pieces turns t → NodeIsOut c t →
+    NodeTellsAlong policy c (node_fed c (concat pieces) s) whole u → NodeIsOut c u → (turns ≡ whole) × (t ≡ u)
+pieces_told_out front either stands laws policy c pieces s t u turns whole sound h out k also =
+    told_out_once front either laws policy c (node_fed c (concat pieces) s) t u turns whole sound
+    (pieces_along stands policy c pieces s t turns h) out k also

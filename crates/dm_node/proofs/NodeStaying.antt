@@ -1,0 +1,99 @@
+-- Each connection that a neighbour holds is there, whatever is done.
+use Rattle.std.proofs.Common.{◌≡◌, ℕ, Bool, true, false, nat_eq, is_some, Option, None, Some, Result, Ok, Err, OnOk, OnErr, List, refl, sym, ap, ◌∙◌, subst}
+use Rattle.std.proofs.lemmas.Bool.{eqb-true}
+use Rattle.dm_machine.specs.declared.connection.Conn.{Conn}
+use Rattle.dm_node.specs.Holding.{holds_at}
+use Rattle.dm_node.specs.Telling.{IsFree}
+use Rattle.dm_peer.specs.declared.actions.Action.{Action}
+use Rattle.dm_peer.specs.declared.peer.Peer.{Peer}
+use Rattle.dm_slots.specs.Intakes.{Intake, Intakes, is_there, opened, taken_down, changed, with_intake, actions_close, left_by}
+use Rattle.dm_peer.specs.Events.{PeerEvent, Arrived, Start}
+use Rattle.dm_slots.specs.Naming.{NamesThere, NamesAtMost}
+use Rattle.dm_slots.specs.Staying.{OpeningKeeps, ChangingKeeps, TellingKeeps, RaisingKeeps, ClosingKeeps, ShuttingKeeps}
+use Rattle.dm_node.specs.NodeHeld.{AllHeldAreThere}
+use Rattle.dm_base.specs.declared.node.Node.{Node}
+use Rattle.dm_node.specs.NodeStates.{NodeState, raised_for, node_settled, with_node_intakes}
+use Rattle.dm_node.specs.NodeOrders.{node_opened}
+use Rattle.dm_node.proofs.NodeMoving.{two_truths}
+
+pub held_opened : OpeningKeeps → (ps : List (Option Peer)) (max d : ℕ) (f : Intakes) → AllHeldAreThere ps f →
+    AllHeldAreThere ps (opened max d f)
+held_opened keeps ps max d f there i c held = (keeps max d f).1 c.0 (there i c held)
+
+pub held_changed : ChangingKeeps → (ps : List (Option Peer)) (d : ℕ) (change : Intake → Intake) (f : Intakes) →
+    AllHeldAreThere ps f → AllHeldAreThere ps (changed d change f)
+held_changed keeps ps d change f there i c held = keeps d change f c.0 (there i c held)
+
+pub held_with : TellingKeeps → (ps : List (Option Peer)) (d : ℕ) (i : Intake) (f : Intakes) →
+    AllHeldAreThere ps f → AllHeldAreThere ps (with_intake d (Some i) f)
+held_with keeps ps d i f there j c held = keeps d i f c.0 (there j c held)
+
+-- one that nobody holds may go
+pub held_shut : ShuttingKeeps → (ps : List (Option Peer)) (d : Conn) (f : Intakes) → AllHeldAreThere ps f →
+    IsFree ps d → AllHeldAreThere ps (taken_down d.0 f)
+held_shut keeps ps d f there free i c held =
+    ap is_some (keeps d.0 c.0 f (λ e. two_truths (holds_at ps c i) held
+    (subst (λ x. holds_at ps x i ≡ false) (ap (λ n. record { 0 = n }) e) (free i))))
+    ∙ there i c held
+
+raised_there : RaisingKeeps → (most : ℕ) (p : Option Peer) (f : Intakes) (c : ℕ) → is_there c f ≡ true →
+    is_there c (raised_for most p f) ≡ true
+raised_there keeps most None f c is = is
+raised_there keeps most (Some p) f c is = keeps most p f c is
+
+-- and so may what is closed
+pub held_left : ClosingKeeps → RaisingKeeps → (ps : List (Option Peer)) (actions : List Action) (most : ℕ)
+    (p : Option Peer) (f : Intakes) → AllHeldAreThere ps f →
+    ((c : Conn) → actions_close actions c.0 ≡ true → IsFree ps c) → AllHeldAreThere ps (raised_for most p (left_by actions f))
+held_left closing raising ps actions most p f there free i c held =
+    raised_there raising most p (left_by actions f) c.0 (by (actions_close actions c.0) refl) where
+      by : (b : Bool) → actions_close actions c.0 ≡ b → is_there c.0 (left_by actions f) ≡ true
+      by true e = absurd (two_truths (holds_at ps c i) held (free c e i))
+      by false e = ap is_some (closing actions c.0 f e) ∙ there i c held
+
+-- a connection that isn't there isn't held
+pub none_holds : (ps : List (Option Peer)) (f : Intakes) (c : Conn) → AllHeldAreThere ps f → is_there c.0 f ≡ false →
+    IsFree ps c
+none_holds ps f c there none i = by (holds_at ps c i) refl where
+  by : (b : Bool) → holds_at ps c i ≡ b → b ≡ false
+  by true held = absurd (two_truths (is_there c.0 f) (there i c held) none)
+  by false held = refl
+
+-- an event that names no connection but one that is there
+pub names_there : (e : PeerEvent) (c : Conn) (f : Intakes) → NamesAtMost e c → is_there c.0 f ≡ true → NamesThere e f
+names_there e c f most there d named = subst (λ x. is_there x.0 f ≡ true) (sym (most d named)) there
+
+pub by_number : (c d : Conn) → nat_eq c.0 d.0 ≡ true → d ≡ c
+by_number c d e = sym (ap (λ n. record { 0 = n }) (eqb-true c.0 d.0 e))
+
+-- octets of a connection that is there
+pub arrived_there : (c : Conn) (s : List ℕ) (i : Intake) (f : Intakes) → f c.0 ≡ Some i → NamesThere (Arrived c s) f
+arrived_there c s i f there = names_there (Arrived c s) c f (λ d e. by_number c d e) (ap is_some there)
+
+-- a Start of a connection that was opened for it
+pub started_there : OpeningKeeps → (c : Conn) (s o : NodeState) → o ≡ node_opened c s → NamesThere (Start c) o.intakes
+started_there keeps c s o is =
+    names_there (Start c) c o.intakes (λ d e. by_number c d e)
+    (ap (λ (v : NodeState). is_there c.0 v.intakes) is ∙ (keeps s.first_max c.0 s.intakes).0)
+
+-- where something is done or it isn't
+pub done_or_not : {A E : Type 0} (r : Result A E) (P : Intakes → Type 0) (x old new : Intakes) → OnOk r (new ≡ x) →
+    OnErr r (new ≡ old) → P x → P old → P new
+done_or_not (Ok a) P x old new ok err there before = subst P (sym ok) there
+done_or_not (Err e) P x old new ok err there before = subst P (sym err) before
+
+-- what is settled goes by the node, the neighbours and what is there
+abbrev pub session_at : NodeState → Node → List (Option Peer) → Intakes → NodeState
+session_at s n qs f = record { node = n; peers = qs; intakes = f; first_max = s.first_max; most = s.most }
+
+pub settled_as : (s : NodeState) (n : Node) (qs : List (Option Peer)) (who : Option ℕ) (actions : List Action)
+    (g f : Intakes) → n ≡ s.node → g ≡ f →
+    node_settled who qs actions (session_at s n qs g) ≡ node_settled who qs actions (with_node_intakes f s)
+settled_as s n qs who actions g f same is =
+    ap (λ m. node_settled who qs actions (session_at s m qs g)) same
+    ∙ ap (λ h. node_settled who qs actions (session_at s s.node qs h)) is
+
+pub session_is : (s : NodeState) (n m : Node) (qs rs : List (Option Peer)) (g f : Intakes) → n ≡ m → qs ≡ rs → g ≡ f →
+    session_at s n qs g ≡ session_at s m rs f
+session_is s n m qs rs g f node peers is =
+    ap (λ x. session_at s x qs g) node ∙ ap (λ l. session_at s m l g) peers ∙ ap (session_at s m rs) is

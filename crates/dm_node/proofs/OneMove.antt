@@ -1,0 +1,158 @@
+-- Octets on a node's connection come to one thing.
+use Rattle.std.proofs.Common.{◌≡◌, inl, inr, ℕ, suc, Bool, true, false, nat_eq, Option, None, Some, unwrap_or, List, [], ◌∷◌, length, refl, sym, ap, ◌∙◌, subst}
+use Rattle.std.proofs.lemmas.Bool.{eqb-true}
+use Rattle.dm_base.specs.declared.node.Node.{Node}
+use Rattle.dm_base.specs.Before.{lower}
+use Rattle.dm_history.specs.History.{new_peer}
+use Rattle.dm_machine.specs.declared.connection.Conn.{Conn}
+use Rattle.dm_node.specs.Adding.{with_new}
+use Rattle.dm_node.specs.Calling.{Caller, caller_of}
+use Rattle.dm_node.specs.Holding.{peer_at, holds_at}
+use Rattle.dm_node.specs.Neighbourhoods.{IsNeighbourhood}
+use Rattle.dm_node.specs.Policies.{Policy}
+use Rattle.dm_node.specs.Strangers.{IsPermitted, Joins, NodeMoves}
+use Rattle.dm_node.specs.Telling.{IsCallOf, IsAddressed, PeerIsTold}
+use Rattle.dm_peer.specs.declared.actions.Action.{Action}
+use Rattle.dm_peer.specs.declared.config.Config.{Config}
+use Rattle.dm_peer.specs.declared.peer.Peer.{Peer}
+use Rattle.dm_peer.specs.Acts.{Moved, acts}
+use Rattle.dm_peer.specs.Events.{PeerEvent, Arrived}
+use Rattle.dm_node.specs.NodeStates.{NodeAnswer}
+use Rattle.dm_node.proofs.Configured.{one_permitted, permitted_or_not}
+use Rattle.dm_node.proofs.Newcomers.{OutOrTurnedOff, joined}
+use Rattle.dm_node.proofs.NodeMoving.{two_truths, unlike}
+
+-- octets on a connection concern one
+some_is : (o : Option Caller) (a b : Caller) → o ≡ Some a → o ≡ Some b → a ≡ b
+some_is o a b x y = ap (λ v. unwrap_or v a) (sym x ∙ y)
+
+one_called : (ps : List (Option Peer)) (s : List ℕ) (i j : ℕ) → IsNeighbourhood ps → IsCallOf ps s i → IsCallOf ps s j →
+    i ≡ j
+one_called ps s i j n a b =
+    n.unlike.one i j (lower a.0.1) a.2
+    (b.2 ∙ ap (λ (x : Caller). Some (lower x.1)) (some_is (caller_of s) b.0 a.0 b.1 a.1))
+
+same_number : (i j : ℕ) → Some i ≡ Some j → i ≡ j
+same_number i j e = cc
+
+pub one_addressed : (policy : Policy) (ps : List (Option Peer)) (c : Conn) (s : List ℕ) (i j : ℕ) →
+    IsNeighbourhood ps → IsAddressed policy ps c s i → IsAddressed policy ps c s j → i ≡ j
+one_addressed policy ps c s i j n (inl a) (inl b) = n.apart.one i j c a b
+one_addressed policy ps c s i j n (inl a) (inr b) = absurd (two_truths (holds_at ps c i) a (b.0 i))
+one_addressed policy ps c s i j n (inr a) (inl b) = absurd (two_truths (holds_at ps c j) b (a.0 j))
+one_addressed policy ps c s i j n (inr (free, inl a)) (inr (also, inl b)) = one_called ps s i j n a b
+one_addressed policy ps c s i j n (inr (free, inl a)) (inr (also, inr b)) = absurd (b.0 i a)
+one_addressed policy ps c s i j n (inr (free, inr a)) (inr (also, inl b)) = absurd (a.0 j b)
+one_addressed policy ps c s i j n (inr (free, inr a)) (inr (also, inr b)) = same_number i j (sym a.1.0 ∙ b.1.0)
+
+-- neighbours that are the same one by one are the same
+each_same : (qs rs : List (Option Peer)) → length qs ≡ length rs → ((j : ℕ) → peer_at qs j ≡ peer_at rs j) → qs ≡ rs
+each_same [] [] count same = refl
+each_same [] (r ∷ rs) count same = absurd (cc count)
+each_same (q ∷ qs) [] count same = absurd (cc count)
+each_same (q ∷ qs) (r ∷ rs) count same =
+    let first : q ≡ r = same 0 in
+    let rest : length qs ≡ length rs = cc count in
+    ap (λ x. x ∷ qs) first ∙ ap (λ l. r ∷ l) (each_same qs rs rest (λ j. same (suc j)))
+
+one_some : (p q : Peer) → Some p ≡ Some q → p ≡ q
+one_some p q e = cc
+
+same_actions : (a b : List Action) (p q : Peer) → Moved a p ≡ Moved b q → a ≡ b
+same_actions a b p q e = cc
+
+same_after : (a b : List Action) (p q : Peer) → Moved a p ≡ Moved b q → p ≡ q
+same_after a b p q e = cc
+
+told_once : (ps qs rs : List (Option Peer)) (i : ℕ) (e : PeerEvent) (a b : List Action) → PeerIsTold ps qs i e a →
+    PeerIsTold ps rs i e b → (a ≡ b) × (qs ≡ rs)
+told_once ps qs rs i e a b h k =
+    let before : h.before ≡ k.before = one_some h.before k.before (sym h.was ∙ k.was) in
+    let moved : Moved a h.after ≡ Moved b k.after = sym h.acts ∙ ap (λ p. acts p e) before ∙ k.acts in
+    let after : h.after ≡ k.after = same_after a b h.after k.after moved in (
+      same_actions a b h.after k.after moved,
+      each_same qs rs (h.count ∙ sym k.count) (λ j. at after j (nat_eq j i) refl),
+    )
+  where
+    at : h.after ≡ k.after → (j : ℕ) (b : Bool) → nat_eq j i ≡ b → peer_at qs j ≡ peer_at rs j
+    at after j true same =
+        ap (peer_at qs) (eqb-true j i same) ∙ h.is ∙ ap Some after ∙ sym k.is
+        ∙ sym (ap (peer_at rs) (eqb-true j i same))
+    at after j false other = h.others j (unlike j i other) ∙ sym (k.others j (unlike j i other))
+
+-- what a new peer of a configuration does
+acted_as : (k l : Config) (c : Conn) (octets : List ℕ) (a : List Action) (q : Peer) → k ≡ l →
+    acts (new_peer l l.first_id) (Arrived c octets) ≡ Moved a q →
+    acts (new_peer k k.first_id) (Arrived c octets) ≡ Moved a q
+acted_as k l c octets a q same is =
+    subst (λ (x : Config). acts (new_peer x x.first_id) (Arrived c octets) ≡ Moved a q) (sym same) is
+
+-- a host joins in one way
+joins_once : (ps qs rs : List (Option Peer)) (i j : ℕ) (c : Conn) (octets : List ℕ) (a b : List Action)
+    (k l : Config) → k ≡ l → Joins ps qs i c octets a k → Joins ps rs j c octets b l → (i ≡ j) × (a ≡ b) × (qs ≡ rs)
+joins_once ps qs rs i j c octets a b k l same h g =
+    let number : i ≡ j = h.number ∙ sym g.number in
+    let told : PeerIsTold (with_new ps k) rs j (Arrived c octets) b =
+    subst (λ (x : Config). PeerIsTold (with_new ps x) rs j (Arrived c octets) b) (sym same) g.told in
+    let one = told_once (with_new ps k) qs rs i (Arrived c octets) a b h.told
+    (subst (λ m. PeerIsTold (with_new ps k) rs m (Arrived c octets) b) (sym number) told) in
+    (number, one.0, one.1)
+
+-- and where it joins it doesn't stay out
+joins_or_not : (policy : Policy) (c : Conn) (octets : List ℕ) (n : Node) (ps qs rs : List (Option Peer)) (i : ℕ)
+    (a b : List Action) (k : Config) → IsPermitted policy ps c octets k → Joins ps qs i c octets a k →
+    OutOrTurnedOff policy c octets n ps b rs → ⊥
+joins_or_not policy c octets n ps qs rs i a b k permitted joins (inl (l, permits, out)) =
+    let acted = acted_as k l c octets b out.after (one_permitted policy ps c octets k l permitted permits) out.acted in
+    let after : joins.told.after ≡ out.after =
+    same_after a b joins.told.after out.after (sym (joined ps qs i c octets a k joins) ∙ acted) in
+    joins.stays (ap (λ (x : Peer). x.standing.core.state) after ∙ out.closed)
+joins_or_not policy c octets n ps qs rs i a b k permitted joins (inr (answer, same, forbidden)) =
+    permitted_or_not policy ps c octets k permitted forbidden
+
+-- where octets concern nobody and nobody joins
+nobody_once : (policy : Policy) (c : Conn) (octets : List ℕ) (n : Node) (ps qs rs : List (Option Peer))
+    (a b : List Action) → OutOrTurnedOff policy c octets n ps a qs → OutOrTurnedOff policy c octets n ps b rs →
+    (a ≡ b) × (qs ≡ rs)
+nobody_once policy c octets n ps qs rs a b (inl (k, permitted, out)) (inl (l, permits, also)) =
+    let acted = acted_as k l c octets b also.after (one_permitted policy ps c octets k l permitted permits)
+    also.acted in
+    (same_actions a b out.after also.after (sym out.acted ∙ acted), out.same ∙ sym also.same)
+nobody_once policy c octets n ps qs rs a b (inl (k, permitted, out)) (inr (reply, also, forbidden)) =
+    absurd (permitted_or_not policy ps c octets k permitted forbidden)
+nobody_once policy c octets n ps qs rs a b (inr (answer, same, forbidden)) (inl (l, permits, out)) =
+    absurd (permitted_or_not policy ps c octets l permits forbidden)
+nobody_once policy c octets n ps qs rs a b (inr (answer, same, forbidden)) (inr (reply, also, never)) =
+    (answer ∙ sym reply, same ∙ sym also)
+
+-- one event has one outcome
+pub record SameMove (a b : NodeAnswer) (qs rs : List (Option Peer)) : Type 0 where
+  pub neighbour : a.neighbour ≡ b.neighbour
+  pub actions : a.actions ≡ b.actions
+  pub peers : qs ≡ rs
+
+pub moves_once : (policy : Policy) (c : Conn) (s : List ℕ) (n : Node) (ps qs rs : List (Option Peer))
+    (a b : NodeAnswer) → IsNeighbourhood ps → (x y : Option ℕ) → a.neighbour ≡ x → b.neighbour ≡ y →
+    NodeMoves policy c s n ps x a.actions qs → NodeMoves policy c s n ps y b.actions rs → SameMove a b qs rs
+moves_once policy c s n ps qs rs a b sound (Some i) (Some j) is also (inl h) (inl k) =
+    let same : i ≡ j = one_addressed policy ps c s i j sound h.0 k.0 in
+    let one = told_once ps qs rs j (Arrived c s) a.actions b.actions
+    (subst (λ m. PeerIsTold ps qs m (Arrived c s) a.actions) same h.1) k.1 in
+    record { neighbour = is ∙ ap Some same ∙ sym also; actions = one.0; peers = one.1 }
+moves_once policy c s n ps qs rs a b sound (Some i) (Some j) is also (inl h) (inr (k, permitted, joins)) =
+    absurd (permitted.unknown.nobody i h.0)
+moves_once policy c s n ps qs rs a b sound (Some i) (Some j) is also (inr (k, permitted, joins)) (inl h) =
+    absurd (permitted.unknown.nobody j h.0)
+moves_once policy c s n ps qs rs a b sound (Some i) (Some j) is also (inr (k, permitted, h)) (inr (l, permits, g)) =
+    let one = joins_once ps qs rs i j c s a.actions b.actions k l
+    (one_permitted policy ps c s k l permitted permits) h g in
+    record { neighbour = is ∙ ap Some one.0 ∙ sym also; actions = one.1; peers = one.2 }
+moves_once policy c s n ps qs rs a b sound (Some i) None is also (inl h) g = absurd (g.0 i h.0)
+moves_once policy c s n ps qs rs a b sound (Some i) None is also (inr (k, permitted, joins)) g =
+    absurd (joins_or_not policy c s n ps qs rs i a.actions b.actions k permitted joins g.1)
+moves_once policy c s n ps qs rs a b sound None (Some j) is also h (inl g) = absurd (h.0 j g.0)
+moves_once policy c s n ps qs rs a b sound None (Some j) is also h (inr (k, permitted, joins)) =
+    absurd (joins_or_not policy c s n ps rs qs j b.actions a.actions k permitted joins h.1)
+moves_once policy c s n ps qs rs a b sound None None is also h g =
+    let one = nobody_once policy c s n ps qs rs a.actions b.actions h.1 g.1 in
+    record { neighbour = is ∙ sym also; actions = one.0; peers = one.1 }

@@ -1,0 +1,283 @@
+-- What the rules say of an event, whatever memory there is.
+use Rattle.std.proofs.Common.{◌≡◌, inl, inr, ℕ, true, false, Bool, if◌then◌else◌, Option, None, Some, option_map, Result, Ok, Err, IfSome, IfNone, IfErr, IsTrue, List, refl, sym, ap, ◌∙◌, subst}
+use Rattle.dm_machine.specs.declared.connection.Conn.{Conn}
+use Rattle.dm_machine.specs.declared.state_name.State.{State}
+use Rattle.dm_machine.specs.declared.state_name.State.TheVariants as state
+use Rattle.dm_machine.specs.Moves.{is_open}
+use Rattle.dm_node.specs.Declining.{IsRuledOut, IsDirected, IsByRule, IsDeclinedHere, GoesByRule, GoesByAllRules, EventTakesMemory, IsRuleOf, IsUnruled}
+use Rattle.dm_node.specs.Holding.{peer_at, holds_at}
+use Rattle.dm_node.specs.Neighbourhoods.{IsNeighbourhood}
+use Rattle.dm_node.specs.NodeHeld.{AreKept}
+use Rattle.dm_node.specs.Policies.{Policy, no_strangers}
+use Rattle.dm_node.specs.Telling.{Concerns, IsFree, IsMisdirected, IsRefusedHere, IsStrangeCer, told_of}
+use Rattle.dm_node.specs.declared.events.NodeEvent.{NodeEvent}
+use Rattle.dm_node.specs.declared.events.NodeEvent.TheVariants as event
+use Rattle.dm_node.specs.declared.fault.EventFault.{EventFault}
+use Rattle.dm_node.specs.declared.fault.EventFault.TheVariants as fault
+use Rattle.dm_peer.specs.declared.fault.PeerFault.{PeerFault}
+use Rattle.dm_peer.specs.declared.fault.PeerFault.TheVariants.{NoMemory, NotOpen, BadSubmit}
+use Rattle.dm_peer.specs.declared.peer.Peer.{Peer}
+use Rattle.dm_peer.specs.Acts.{Outcome, Moved, Refused, acts, wants_memory, can_submit, IsRefused}
+use Rattle.dm_peer.specs.Events.{PeerEvent, Start, Stop, Timeout, Tick, Ack, Nack, Arrived, Gone, Submit}
+use Rattle.dm_peer.specs.Kept.{IsKept}
+use Rattle.dm_peer.specs.Refusing.{RefusesByRule, fault_at, refusal_of, start_refusal}
+use Rattle.dm_wire.specs.Whole.{message_in}
+use Rattle.dm_node.proofs.Concerned.{one_there}
+use Rattle.dm_node.proofs.Errors.{not_done, same_fault}
+use Rattle.dm_node.proofs.NodeMoving.{two_truths}
+
+-- a neighbour refuses, or nobody is named: a misdirected event is no neighbour's refusal
+pub never_of_peer : (ps : List (Option Peer)) (e : NodeEvent) (f : PeerFault) → IsMisdirected ps e (fault.Peer f) → ⊥
+never_of_peer ps (event.Start m c) f h = h
+never_of_peer ps (event.Stop m cause) f h = h
+never_of_peer ps (event.Timeout m) f h = h
+never_of_peer ps (event.Tick m) f h = h
+never_of_peer ps (event.Submit m octets) f h = h
+never_of_peer ps (event.Ack c) f h = h
+never_of_peer ps (event.Nack c) f h = h
+never_of_peer ps (event.Arrived c octets) f h = h
+never_of_peer ps (event.Gone c) f h = h
+
+pub misdirected_by_rule : (policy : Policy) (ps : List (Option Peer)) (e : NodeEvent) (f : EventFault) →
+    IsMisdirected ps e f → IsByRule policy ps e f
+misdirected_by_rule policy ps e (fault.Peer f) h = absurd (never_of_peer ps e f h)
+misdirected_by_rule policy ps e fault.NoNeighbour h = h
+misdirected_by_rule policy ps e fault.Held h = h
+
+pub misdirected_declined : (policy : Policy) (ps : List (Option Peer)) (e : NodeEvent) (f : EventFault) →
+    IsMisdirected ps e f → IsDeclinedHere policy ps e f
+misdirected_declined policy ps e (fault.Peer f) h = absurd (never_of_peer ps e f h)
+misdirected_declined policy ps e fault.NoNeighbour h = h
+misdirected_declined policy ps e fault.Held h = h
+
+-- no rule refuses for want of memory
+starts : (s : State) → start_refusal s ≡ Some NoMemory → ⊥
+starts state.Closed h = absurd (cc h)
+starts state.WaitConnAck h = absurd (cc h)
+starts state.WaitICea h = absurd (cc h)
+starts state.WaitConnAckElect h = absurd (cc h)
+starts state.WaitReturns h = absurd (cc h)
+starts state.ROpen h = absurd (cc h)
+starts state.IOpen h = absurd (cc h)
+starts state.Closing h = absurd (cc h)
+
+opens : (is : Bool) → (if is then None else Some NotOpen) ≡ Some NoMemory → ⊥
+opens true h = absurd (cc h)
+opens false h = absurd (cc h)
+
+submits : (is can : Bool) → (if is then (if can then None else Some BadSubmit) else Some NotOpen) ≡ Some NoMemory → ⊥
+submits true true h = absurd (cc h)
+submits true false h = absurd (cc h)
+submits false can h = absurd (cc h)
+
+never_of_memory : (s : State) (e : PeerEvent) → refusal_of s e ≡ Some NoMemory → ⊥
+never_of_memory s (Start c) h = starts s h
+never_of_memory s (Stop cause) h = opens (is_open s) h
+never_of_memory s (Submit octets) h = submits (is_open s) (can_submit (message_in octets)) h
+never_of_memory s Timeout h = absurd (cc h)
+never_of_memory s Tick h = absurd (cc h)
+never_of_memory s (Ack c) h = absurd (cc h)
+never_of_memory s (Nack c) h = absurd (cc h)
+never_of_memory s (Arrived c octets) h = absurd (cc h)
+never_of_memory s (Gone c) h = absurd (cc h)
+
+-- where memory was wanted some is taken
+wanted : RefusesByRule → (p : Peer) (e : PeerEvent) → IsKept p → IsRefused (acts p e) NoMemory →
+    IsTrue (wants_memory (acts p e))
+wanted rule p e kept (inl wants) = wants.1
+wanted rule p e kept (inr is) =
+    absurd (never_of_memory p.standing.core.state e (sym (rule p e kept.settled.shaped) ∙ ap fault_at is))
+
+pub event_wants : RefusesByRule → (policy : Policy) (ps : List (Option Peer)) (e : NodeEvent) (f : EventFault) →
+    AreKept ps → (IsStrangeCer e → ⊥) → f ≡ fault.Peer NoMemory → IsRefusedHere policy ps e f →
+    EventTakesMemory policy ps e
+event_wants rule policy ps e f kept calm is h =
+    elim (subst (IsRefusedHere policy ps e) is h) [
+      | inl (i, at, by) ↦ (i, by.peer, at, by.at, wanted rule by.peer (told_of e) (kept i by.peer by.at) by.refused)
+      | inr strange ↦ absurd (calm strange.2)
+    ]
+
+-- the neighbour that is told it refuses by its rules
+pub one_goes : {A : Type 0} (policy : Policy) (ps : List (Option Peer)) (e : NodeEvent) (who : Option ℕ) (k : ℕ)
+    (r : Result A EventFault) → IsNeighbourhood ps → who ≡ Some k → IfSome who (Concerns policy ps e) →
+    ((f : PeerFault) → IsRuledOut ps k (told_of e) f → r ≡ Err (fault.Peer f)) → IfErr r (IsByRule policy ps e) →
+    GoesByRule policy ps e r
+one_goes policy ps e who k r apart is concerned refuses ruled =
+    record {
+      refuses = λ i f directed there out.
+          refuses f
+          (subst (λ j. IsRuledOut ps j (told_of e) f) (one_there policy ps e who i k apart is concerned there) out);
+      ruled = ruled;
+    }
+
+-- and where there is none memory alone may be wanted
+pub none_goes : {A : Type 0} (S : Type 0) (policy : Policy) (ps : List (Option Peer)) (e : NodeEvent) (r : Result A EventFault) →
+    ((i : ℕ) → Concerns policy ps e i → ⊥) → IfErr r (λ f. (f ≡ fault.Peer NoMemory) × S) → GoesByRule policy ps e r
+none_goes S policy ps e r none memory =
+    record { refuses = λ i f directed there out. absurd (none i there); ruled = by r memory } where
+      by : {B : Type 0} (r : Result B EventFault) → IfErr r (λ f. (f ≡ fault.Peer NoMemory) × S) → IfErr r (IsByRule policy ps e)
+      by (Ok a) h = tt
+      by (Err f) h = subst (IsByRule policy ps e) (sym h.0) (inl refl)
+
+-- what is misdirected goes by the rules as such
+pub misdirected_goes : {A : Type 0} (policy : Policy) (ps : List (Option Peer)) (e : NodeEvent) (f : EventFault) →
+    IsMisdirected ps e f → ((g : EventFault) → IsMisdirected ps e g → f ≡ g) →
+    GoesByAllRules {A = A} policy ps e (Err f)
+misdirected_goes policy ps e f wrong one =
+    record {
+      misdirected = λ g h. ap Err (one g h);
+      by_rule = record {
+        refuses = λ i g directed concerned out. absurd (directed f wrong);
+        ruled = misdirected_by_rule policy ps e f wrong;
+      };
+    }
+
+-- and what isn't, as the neighbour that it concerns refuses it
+pub directed_goes : {A : Type 0} (policy : Policy) (ps : List (Option Peer)) (e : NodeEvent) (r : Result A EventFault) →
+    IsDirected ps e → GoesByRule policy ps e r → GoesByAllRules policy ps e r
+directed_goes policy ps e r directed by =
+    record { misdirected = λ f wrong. absurd (directed f wrong); by_rule = by }
+
+pub rule_goes : {A : Type 0} (policy : Policy) (ps : List (Option Peer)) (e : NodeEvent) (f : EventFault) →
+    IsRuleOf policy ps e f → GoesByAllRules {A = A} policy ps e (Err f)
+rule_goes policy ps e f rule =
+    record {
+      misdirected = λ g wrong. ap Err (rule.misdirected g wrong);
+      by_rule = record {
+        refuses = λ i g directed concerned out. ap Err (rule.refuses i g directed concerned out);
+        ruled = rule.ruled;
+      };
+    }
+
+-- where they don't refuse it memory alone may be wanted
+pub unruled_goes : {A : Type 0} (policy : Policy) (ps : List (Option Peer)) (e : NodeEvent) → IsUnruled policy ps e →
+    GoesByAllRules {A = A} policy ps e (Err (fault.Peer NoMemory))
+unruled_goes policy ps e un =
+    record {
+      misdirected = λ f wrong. absurd (un.directed f wrong);
+      by_rule = record {
+        refuses = λ i f directed concerned out. absurd (un.allowed i f concerned out);
+        ruled = inl refl;
+      };
+    }
+
+-- A Start of a connection that nobody holds.
+
+held_free : (ps : List (Option Peer)) (c : Conn) (i : ℕ) → IsFree ps c → holds_at ps c i ≡ true → ⊥
+held_free ps c i free held = two_truths (holds_at ps c i) held (free i)
+
+pub unstarted : (ps : List (Option Peer)) (n : ℕ) (c : Conn) → IsFree ps c → peer_at ps n ≡ None →
+    IsRuleOf no_strangers ps (event.Start n c) fault.NoNeighbour
+unstarted ps n c free none = record { misdirected = one; refuses = never; ruled = (none, free) } where
+  one : (g : EventFault) → IsMisdirected ps (event.Start n c) g → fault.NoNeighbour ≡ g
+  one fault.Held (i, held) = absurd (held_free ps c i free held)
+  one fault.NoNeighbour h = refl
+  one (fault.Peer f) h = absurd h
+
+  never : (i : ℕ) (g : PeerFault) → IsDirected ps (event.Start n c) → Concerns no_strangers ps (event.Start n c) i →
+      IsRuledOut ps i (Start c) g → fault.NoNeighbour ≡ fault.Peer g
+  never i g directed is out = absurd (directed fault.NoNeighbour (none, free))
+
+module _ (ps : List (Option Peer)) (n : ℕ) (c : Conn) (free : IsFree ps c) (p : Peer) (at : peer_at ps n ≡ Some p) where
+  directed : IsDirected ps (event.Start n c)
+  directed fault.Held (i, held) = held_free ps c i free held
+  directed fault.NoNeighbour (none, h) = let clash : None ≡ Some p = sym none ∙ at in absurd (cc clash)
+  directed (fault.Peer f) h = h
+
+  same_peer : (q : Peer) → Some q ≡ Some p → q ≡ p
+  same_peer q e = cc
+
+  rule_at : (i : ℕ) (g : PeerFault) → n ≡ i → IsRuledOut ps i (Start c) g →
+      start_refusal p.standing.core.state ≡ Some g
+  rule_at i g is out =
+      subst (λ (q : Peer). start_refusal q.standing.core.state ≡ Some g)
+      (same_peer out.peer (sym out.at ∙ ap (peer_at ps) (sym is) ∙ at)) out.rule
+
+  some_fault : (f g : PeerFault) → Some f ≡ Some g → f ≡ g
+  some_fault f g e = cc
+
+  pub start_ruled : (f : PeerFault) → start_refusal p.standing.core.state ≡ Some f →
+      IsRuleOf no_strangers ps (event.Start n c) (fault.Peer f)
+  start_ruled f is =
+      record {
+        misdirected = λ g wrong. absurd (directed g wrong);
+        refuses = λ i g straight concerned out. ap fault.Peer (some_fault f g (sym is ∙ rule_at i g concerned out));
+        ruled = inr (n, refl, record { peer = p; at = at; rule = is });
+      }
+
+  refused_of : (o : Outcome) (f : PeerFault) → fault_at o ≡ Some f → o ≡ Refused f
+  refused_of (Moved actions q) f e = absurd (cc e)
+  refused_of (Refused g) f e = ap Refused (some_fault g f e)
+
+  pub start_declined : RefusesByRule → IsKept p → (f : PeerFault) → start_refusal p.standing.core.state ≡ Some f →
+      IsDeclinedHere no_strangers ps (event.Start n c) (fault.Peer f)
+  start_declined rule kept f is = (
+    n,
+    refl,
+    record {
+      peer = p;
+      at = at;
+      refused = refused_of (acts p (Start c)) f (rule p (Start c) kept.settled.shaped ∙ is);
+    },
+  )
+
+  pub start_allowed : start_refusal p.standing.core.state ≡ None → IsUnruled no_strangers ps (event.Start n c)
+  start_allowed is =
+      record {
+        directed = directed;
+        allowed = λ i f concerned out.
+            let clash : None ≡ Some f = sym is ∙ rule_at i f concerned out in absurd (cc clash);
+      }
+
+-- what holds of each fault of a neighbour's rules
+pub each_fault : (P : EventFault → Type 0) (r : Option EventFault) (o : Option PeerFault) → r ≡ option_map fault.Peer o →
+    ((f : PeerFault) → o ≡ Some f → P (fault.Peer f)) → IfSome r P
+each_fault P r None is all = subst (λ x. IfSome x P) (sym is) tt
+each_fault P r (Some f) is all = subst (λ x. IfSome x P) (sym is) (all f refl)
+
+pub no_fault : (P : Type 0) (r : Option EventFault) (o : Option PeerFault) → r ≡ option_map fault.Peer o →
+    (o ≡ None → P) → IfNone r P
+no_fault P r None is allowed = subst (λ x. IfNone x P) (sym is) (allowed refl)
+no_fault P r (Some f) is allowed = subst (λ x. IfNone x P) (sym is) tt
+
+-- Rules that a call handed on keeps.
+
+pub done_goes : {A B : Type 0} (policy : Policy) (ps : List (Option Peer)) (e : NodeEvent) (a : A) (b : B)
+    (r : Result B EventFault) → r ≡ Ok b → IsDirected ps e → GoesByRule policy ps e r → GoesByAllRules policy ps e (Ok a)
+done_goes policy ps e a b r is directed rules =
+    record {
+      misdirected = λ f wrong. absurd (directed f wrong);
+      by_rule = record {
+        refuses = λ i f d concerned out. not_done b (fault.Peer f) r is (rules.refuses i f d concerned out);
+        ruled = tt;
+      };
+    }
+
+pub failed_goes : {B : Type 0} (A : Type 0) (policy : Policy) (ps : List (Option Peer)) (e : NodeEvent) (f : EventFault)
+    (r : Result B EventFault) → r ≡ Err f → IsDirected ps e → GoesByRule policy ps e r →
+    GoesByAllRules {A = A} policy ps e (Err f)
+failed_goes A policy ps e f r is directed rules =
+    record {
+      misdirected = λ g wrong. absurd (directed g wrong);
+      by_rule = record {
+        refuses = λ i g d concerned out. ap Err (same_fault f (fault.Peer g) r is (rules.refuses i g d concerned out));
+        ruled = subst (λ x. IfErr x (IsByRule policy ps e)) is rules.ruled;
+      };
+    }
+
+pub done_all : {A B : Type 0} (policy : Policy) (ps : List (Option Peer)) (e : NodeEvent) (a : A) (b : B)
+    (r : Result B EventFault) → r ≡ Ok b → GoesByAllRules policy ps e r → GoesByAllRules policy ps e (Ok a)
+done_all policy ps e a b r is rules =
+    done_goes policy ps e a b r is (λ f wrong. not_done b f r is (rules.misdirected f wrong)) rules.by_rule
+
+pub failed_all : {B : Type 0} (A : Type 0) (policy : Policy) (ps : List (Option Peer)) (e : NodeEvent) (f : EventFault)
+    (r : Result B EventFault) → r ≡ Err f → GoesByAllRules policy ps e r → GoesByAllRules {A = A} policy ps e (Err f)
+failed_all A policy ps e f r is rules =
+    record {
+      misdirected = λ g wrong. ap Err (same_fault f g r is (rules.misdirected g wrong));
+      by_rule = record {
+        refuses = λ i g d concerned out.
+            ap Err (same_fault f (fault.Peer g) r is (rules.by_rule.refuses i g d concerned out));
+        ruled = subst (λ x. IfErr x (IsByRule policy ps e)) is rules.by_rule.ruled;
+      };
+    }

@@ -1,0 +1,42 @@
+-- The laws as they are proved for tellings.
+use Rattle.dm_node.proofs.Newcomers.{PeerLaws}
+use Rattle.dm_node.proofs.NodeCuts.{cuts_alike}
+use Rattle.dm_node.proofs.NodeOnce.{wholly, told_out_once, pieces_told_out}
+use Rattle.dm_node.proofs.laws.one_telling.Goals as goal
+
+pub returns-clause-once : goal.returns-clause-once
+returns-clause-once c = λ policy d s t u turns others sound h out k also.
+    let laws : PeerLaws = record {
+      step = c.each_event_is_one_step.ensures;
+      fresh = c.each_event_keeps_settled.ensures.fresh;
+      settled = c.each_event_keeps_settled.ensures.kept;
+      alone = c.each_opening_has_its_message.ensures.alone;
+      gives_up = c.each_opening_has_its_message.ensures.closed;
+    } in
+    told_out_once c.one_front.ensures.frame c.one_front.ensures.either laws policy d s t u turns others
+    (wholly s.peers sound) h out k also
+
+pub returns-clause-cut : goal.returns-clause-cut
+returns-clause-cut c = λ policy d piece more s m t u first others whole sound h k out all also.
+    let laws : PeerLaws = record {
+      step = c.each_event_is_one_step.ensures;
+      fresh = c.each_event_keeps_settled.ensures.fresh;
+      settled = c.each_event_keeps_settled.ensures.kept;
+      alone = c.each_opening_has_its_message.ensures.alone;
+      gives_up = c.each_opening_has_its_message.ensures.closed;
+    } in
+    told_out_once c.one_front.ensures.frame c.one_front.ensures.either laws policy d _ t u _ whole
+    (wholly s.peers sound) (cuts_alike c.one_front.ensures.fault policy d piece more s m t first others h k) out all
+    also
+
+pub returns-clause-pieces : goal.returns-clause-pieces
+returns-clause-pieces c = λ policy d pieces s t u turns whole sound h out k also.
+    let laws : PeerLaws = record {
+      step = c.each_event_is_one_step.ensures;
+      fresh = c.each_event_keeps_settled.ensures.fresh;
+      settled = c.each_event_keeps_settled.ensures.kept;
+      alone = c.each_opening_has_its_message.ensures.alone;
+      gives_up = c.each_opening_has_its_message.ensures.closed;
+    } in
+    pieces_told_out c.one_front.ensures.frame c.one_front.ensures.either c.one_front.ensures.fault laws policy d pieces
+    s t u turns whole (wholly s.peers sound) h out k also

@@ -1,0 +1,11 @@
+-- Nobody holds anything.
+use Rattle.std.proofs.Common.{refl, sym, ap, subst}
+use Rattle.dm_slots.specs.Held.{owners_of}
+use Rattle.dm_node.specs.Owning.{AreOwned}
+use Rattle.dm_node.proofs.Owned.{none_owned}
+use Rattle.dm_node.proofs.node.Node.new.Goals as goal
+
+pub invariant_of-result-clause-owned : goal.invariant_of-result-clause-owned
+invariant_of-result-clause-owned c =
+    subst (AreOwned (owners_of c.new-3.result)) (sym c.new.ensures.empty)
+    (none_owned _ (owners_of c.new-3.result) (λ d i. refl) (λ d. ap (λ f. f d) c.new-3.ensures.owners))

@@ -1,0 +1,22 @@
+-- One more may be there.
+use Rattle.dm_slots.specs.Intakes.{opened}
+use Rattle.dm_slots.specs.Held.{intakes_of, owners_of}
+use Rattle.dm_node.specs.NodeHeld.{AllHeldAreThere}
+use Rattle.dm_node.proofs.NodeStaying.{held_opened, done_or_not}
+use Rattle.dm_node.proofs.Owning.{owned_same}
+use Rattle.dm_node.proofs.node.Node.open.Goals as goal
+
+pub invariant_of-self : goal.invariant_of-self
+invariant_of-self c =
+    let ps = c.args.self.now.neighbours.peers in
+    let old = intakes_of c.args.self.now.intakes in
+    let max = c.args.self.now.first_max in
+    record {
+      held = done_or_not c.open.result (AllHeldAreThere ps) (opened max c.args.conn.0 old) old
+          (intakes_of c.open.new.self) c.open.ensures.opened c.open.ensures.unchanged
+          (held_opened c.what_is_there_stays.ensures.opened ps max c.args.conn.0 old c.args.self.now.held)
+          c.args.self.now.held;
+      owned = owned_same ps (owners_of c.args.self.now.intakes) (owners_of c.open.new.self) c.open.ensures.owners c.args.self.now.owned;
+      kept = c.args.self.now.kept;
+      met = c.args.self.now.met;
+    }

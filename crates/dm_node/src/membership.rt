@@ -1,0 +1,224 @@
+//! Neighbours that come, go, or begin anew, with the connections that they hold.
+ghost use Rattle.std.specs.Prelude.{◌≡◌, ◌⊎◌, ◌↔◌, ◌++◌, ℕ, true, false, Option, None, length};
+ghost use Rattle.std.specs.Prelude.{IsErrOf, OnOk, OnErr, IfOk, IfErr, option_map, ◌<◌, if◌then◌else◌};
+ghost use Rattle.dm_machine.specs.declared.connection.Conn.{Conn};
+ghost use Rattle.dm_node.specs.Adding.{with_new};
+ghost use Rattle.dm_node.specs.Emptying.{with_set_back, all_set_back};
+ghost use Rattle.dm_node.specs.Holding.{peer_at, holds_it, holds_at, IsKnown};
+ghost use Rattle.dm_node.specs.declared.fault.AddFault.TheVariants as add_faults;
+ghost use Rattle.dm_peer.specs.Places.{is_on};
+ghost use Rattle.dm_peer.specs.declared.peer.Peer.{Peer};
+ghost use Rattle.dm_slots.specs.Held.{intakes_of, owners_of};
+ghost use Rattle.dm_node.specs.Owning.{has};
+ghost use Rattle.dm_node.specs.NodeOrders.{left_by_peer, close_if_any, closes_of};
+ghost use Rattle.dm_node.specs.NodeOrders.{node_set_back, node_closed, node_without};
+ghost use Rattle.dm_node.specs.NodeHeld.{AreKept};
+ghost use Rattle.dm_node.specs.NodeKnown.{known_of, with_nobody, without_known};
+ghost use Rattle.dm_node.specs.NodeSeen.{node_state_of, node_known_of};
+ghost use Rattle.dm_node.specs.NodeStates.{with_node_peers};
+
+use crate::known::Acquaintances;
+use crate::moving::look_at;
+use crate::neighbours::{Neighbours, neighbours_are_apart};
+use crate::owners::Holding;
+use crate::{AddFault, Node};
+use arrayvec::ArrayVec;
+use dm_machine::Conn;
+use dm_peer::laws::{each_event_keeps_settled, each_send_is_spelled};
+use dm_peer::{Action, Actions, Config};
+use dm_slots::Intakes;
+
+/// The connection, if it is one, is no more there.
+fn shut_if_any(intakes: &mut Intakes, conn: Option<Conn>)
+    ensures owners { (c : Conn) → owners_of intakes.new c.0
+        ≡ (if is_on conn c then None else owners_of intakes.old c.0) }
+    ensures shut { (c : ℕ) → intakes_of intakes.new c
+        ≡ (if is_on conn (record { 0 = c }) then None else intakes_of intakes.old c) }
+{
+    if let Some(conn) = conn {
+        intakes.shut(conn);
+    }
+}
+
+/// What is held is no more there.
+fn shut_held(intakes: &mut Intakes, held: Holding)
+    ensures owners { (c : Conn) → owners_of intakes.new c.0
+        ≡ (if has held c then None else owners_of intakes.old c.0) }
+    ensures shut { (p : Option Peer) → ((c : Conn) → has held c ≡ holds_it c p)
+        → intakes_of intakes.new ≡ left_by_peer p (intakes_of intakes.old) }
+{
+    shut_if_any(intakes, held.initiated);
+    shut_if_any(intakes, held.accepted);
+}
+
+/// A Close of the connection, if it is one.
+fn push_close(actions: &mut Actions, conn: Option<Conn>)
+    requires { length actions.old.items < 3 }
+    ensures { actions.new.items ≡ actions.old.items ++ close_if_any conn }
+{
+    if let Some(conn) = conn {
+        actions.push(Action::Close(conn));
+    }
+}
+
+/// What is held is closed.
+fn closes(held: Holding) -> Actions
+    ensures { result.items ≡ close_if_any held.initiated ++ close_if_any held.accepted }
+{
+    let mut actions = ArrayVec::new();
+    push_close(&mut actions, held.initiated);
+    push_close(&mut actions, held.accepted);
+    actions
+}
+
+/// Adds a closed neighbour of this configuration, for whom there is a place.
+fn add_kept(neighbours: &mut Neighbours, config: Config) -> Result<usize, AddFault>
+    requires kept { AreKept neighbours.old.peers }
+    ensures number { IfOk result (λ i. i ≡ length neighbours.old.peers) }
+    ensures added { OnOk result (neighbours.new.peers ≡ with_new neighbours.old.peers config) }
+    ensures known { IsErrOf result add_faults.Known ↔ IsKnown neighbours.old.peers config.peer }
+    ensures refuses { IfErr result (λ f. (f ≡ add_faults.Known) ⊎ (f ≡ add_faults.NoMemory)) }
+    ensures unchanged { OnErr result (neighbours.new.peers ≡ neighbours.old.peers) }
+    ensures node { neighbours.new.node ≡ neighbours.old.node }
+    ensures kept { AreKept neighbours.new.peers }
+    ensures held { (c : Conn) (j : ℕ) → holds_at neighbours.new.peers c j ≡ true
+        → holds_at neighbours.old.peers c j ≡ true }
+{
+    match neighbours.add(config) {
+        Ok(index) => {
+            look_at(neighbours, Some(index));
+            Ok(index)
+        }
+        Err(fault) => Err(fault),
+    }
+}
+
+/// Why no neighbour of this configuration can be added where memory is wanted for it.
+fn fault_of(neighbours: &Neighbours, config: &Config) -> AddFault
+    ensures known { (result ≡ add_faults.Known) ↔ IsKnown neighbours.now.peers config.now.peer }
+    ensures refuses { (result ≡ add_faults.Known) ⊎ (result ≡ add_faults.NoMemory) }
+{
+    match neighbours.find(config.peer_host()) {
+        Some(_) => AddFault::Known,
+        None => AddFault::NoMemory,
+    }
+}
+
+/// Adds a closed neighbour of this configuration, who met nobody.
+fn add_neighbour(
+    neighbours: &mut Neighbours,
+    known: &mut Acquaintances,
+    config: Config,
+) -> Result<usize, AddFault>
+    requires kept { AreKept neighbours.old.peers }
+    ensures number { IfOk result (λ i. i ≡ length neighbours.old.peers) }
+    ensures added { OnOk result (neighbours.new.peers ≡ with_new neighbours.old.peers config) }
+    ensures known { IsErrOf result add_faults.Known ↔ IsKnown neighbours.old.peers config.peer }
+    ensures refuses { IfErr result (λ f. (f ≡ add_faults.Known) ⊎ (f ≡ add_faults.NoMemory)) }
+    ensures unchanged { OnErr result (neighbours.new.peers ≡ neighbours.old.peers) }
+    ensures node { neighbours.new.node ≡ neighbours.old.node }
+    ensures kept { AreKept neighbours.new.peers }
+    ensures held { (c : Conn) (j : ℕ) → holds_at neighbours.new.peers c j ≡ true
+        → holds_at neighbours.old.peers c j ≡ true }
+    ensures unmet { OnOk result (known_of known.new ≡ with_nobody (known_of known.old)) }
+    ensures same { OnErr result (known_of known.new ≡ known_of known.old) }
+{
+    match known.reserve() {
+        Ok(()) => match add_kept(neighbours, config) {
+            Ok(index) => {
+                known.push();
+                Ok(index)
+            }
+            Err(fault) => Err(fault),
+        },
+        Err(_) => Err(fault_of(neighbours, &config)),
+    }
+}
+
+/// Sets the neighbour of the number back to Closed, where there is one.
+fn reset_neighbour(neighbours: &mut Neighbours, index: usize)
+    requires kept { AreKept neighbours.old.peers }
+    ensures back { neighbours.new.peers ≡ with_set_back neighbours.old.peers index }
+    ensures node { neighbours.new.node ≡ neighbours.old.node }
+    ensures kept { AreKept neighbours.new.peers }
+{
+    neighbours.reset(index);
+    look_at(neighbours, Some(index));
+}
+
+/// Sets each neighbour back to Closed.
+fn reset_neighbours(neighbours: &mut Neighbours)
+    requires kept { AreKept neighbours.old.peers }
+    ensures back { neighbours.new.peers ≡ all_set_back neighbours.old.peers }
+    ensures node { neighbours.new.node ≡ neighbours.old.node }
+    ensures kept { AreKept neighbours.new.peers }
+    ensures free { (c : Conn) (j : ℕ) → holds_at neighbours.new.peers c j ≡ false }
+{
+    each_event_keeps_settled();
+    each_send_is_spelled();
+    neighbours.reset_all();
+}
+
+impl Node {
+    /// Adds a closed neighbour of this configuration, and answers its number.
+    ///
+    /// # Errors
+    /// `Known` just where a neighbour has its host, upper and lower case taken as one, whatever memory there is; else
+    /// `NoMemory`. The session is as it was after each, and the configuration is dropped.
+    pub fn add(&mut self, config: Config) -> Result<usize, AddFault>
+        ensures number { IfOk result (λ i. i ≡ length (node_state_of self.old).peers) }
+        ensures added { OnOk result (node_state_of self.new
+            ≡ with_node_peers (with_new (node_state_of self.old).peers config) (node_state_of self.old)) }
+        ensures known { IsErrOf result add_faults.Known ↔ IsKnown (node_state_of self.old).peers config.peer }
+        ensures refuses { IfErr result (λ f. (f ≡ add_faults.Known) ⊎ (f ≡ add_faults.NoMemory)) }
+        ensures unchanged { OnErr result (node_state_of self.new ≡ node_state_of self.old) }
+        // Nobody was met.
+        ensures unmet { OnOk result (node_known_of self.new ≡ with_nobody (node_known_of self.old)) }
+        ensures same { OnErr result (node_known_of self.new ≡ node_known_of self.old) }
+    {
+        match add_neighbour(&mut self.neighbours, &mut self.known, config) {
+            Ok(index) => Ok(index),
+            Err(fault) => Err(fault),
+        }
+    }
+
+    /// Takes the neighbour of this number out, where there is one, and answers what is to be closed: what it held,
+    /// which is no more there. Its number stays unused, whom it met is forgotten, and the others keep theirs. It never
+    /// answers want of memory.
+    pub fn remove(&mut self, index: usize) -> Option<Actions>
+        ensures closes { option_map (λ actions. actions.items) result
+            ≡ option_map closes_of (peer_at (node_state_of self.old).peers index) }
+        ensures without { node_state_of self.new ≡ node_without index (node_state_of self.old) }
+        ensures forgotten { node_known_of self.new ≡ without_known (node_known_of self.old) index }
+    {
+        neighbours_are_apart(&self.neighbours);
+        let held = self.neighbours.holding(index);
+        let gone = self.neighbours.remove(index);
+        self.known.forget(index);
+        shut_held(&mut self.intakes, held);
+        match gone {
+            Some(_) => Some(closes(held)),
+            None => None,
+        }
+    }
+
+    /// The neighbour of the number is Closed, and what it held is no more there. It never answers want of memory.
+    pub(crate) fn set_back(&mut self, index: usize)
+        ensures back { node_state_of self.new ≡ node_set_back index (node_state_of self.old) }
+        ensures known { node_known_of self.new ≡ node_known_of self.old }
+    {
+        neighbours_are_apart(&self.neighbours);
+        let held = self.neighbours.holding(index);
+        reset_neighbour(&mut self.neighbours, index);
+        shut_held(&mut self.intakes, held);
+    }
+
+    /// Each neighbour is Closed, and no connection is there. It never answers want of memory.
+    pub(crate) fn set_back_all(&mut self)
+        ensures back { node_state_of self.new ≡ node_closed (node_state_of self.old) }
+        ensures known { node_known_of self.new ≡ node_known_of self.old }
+    {
+        reset_neighbours(&mut self.neighbours);
+        self.intakes.clear();
+    }
+}

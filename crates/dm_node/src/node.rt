@@ -1,0 +1,346 @@
+//! A node with its neighbours and connections.
+ghost use Rattle.std.proofs.Props.{props};
+ghost use Rattle.dm_slots.specs.Held.{intakes_of, owners_of};
+ghost use Rattle.dm_node.specs.Owning.{AreOwned};
+ghost use Rattle.dm_node.specs.NodeHeld.{AllHeldAreThere, AreKept};
+ghost use Rattle.dm_node.specs.NodeKnown.{known_of, AreKnown};
+
+use crate::known::Acquaintances;
+use crate::meeting::{tell_event, tell_message};
+use crate::moving::raise_for;
+use crate::neighbours::Neighbours;
+use crate::owners::reown;
+use crate::{Answer, NodeEvent, Strangers, Told};
+use dm_machine::{Conn, State};
+use dm_peer::Peer;
+use dm_slots::laws::what_is_there_stays;
+use dm_slots::{Acquaintance, Front, Intakes};
+use std::alloc::{AllocError, Global};
+use std::slice;
+
+/// A node of one neighbour or of many with its connections: what came on each and wasn't told yet, and whom each
+/// neighbour met.
+/// What holds of each is said by `laws::held_are_there`.
+#[derive(Drop)]
+pub struct Node {
+    pub(crate) neighbours: Neighbours,
+    pub(crate) known: Acquaintances,
+    pub(crate) intakes: Intakes,
+    pub(crate) first_max: u32,
+    pub(crate) most: u32,
+    ghost held: { AllHeldAreThere neighbours.peers (intakes_of intakes) },
+    ghost owned: { AreOwned (owners_of intakes) neighbours.peers },
+    ghost kept: { AreKept neighbours.peers } by { Prim.hlevel props },
+    ghost met: { AreKnown neighbours.peers (known_of known) },
+}
+
+impl Node {
+    ghost use Rattle.std.specs.Prelude.{◌≡◌, ◌⊎◌, ℕ, true, false, All, [], Option, Some, is_some, option_map};
+    ghost use Rattle.std.specs.Prelude.{IfSome, IfNone, OnOk, OnErr};
+    ghost use Rattle.std.specs.Option.{option_copied};
+    ghost use Rattle.dm_machine.specs.declared.connection.Conn.{Conn};
+    ghost use Rattle.std.specs.Slice.Iter.{iter_rest};
+    ghost use Rattle.std.specs.Iterator.Adapters.{IterYieldsInOrder};
+    ghost use Rattle.dm_base.specs.Before.{lower};
+    ghost use Rattle.dm_peer.specs.Spelled.{SendsSpelling};
+    ghost use Rattle.dm_peer.specs.declared.peer.Peer.{Peer};
+    ghost use Rattle.dm_node.specs.Holding.{peer_at, host_at, holds_at};
+    ghost use Rattle.dm_node.specs.Telling.{IsFree};
+    ghost use Rattle.dm_slots.specs.Acquaintances.{known_after};
+    ghost use Rattle.dm_slots.specs.Intakes.{Intake, IsFaulty, none_there, is_there, actions_close};
+    ghost use Rattle.dm_node.specs.NodeKnown.{acquaintance_at, MeetsAny, NodeKnownBehind, AwaitsExchangeAt};
+    ghost use Rattle.dm_node.specs.NodeOrders.{node_opened, node_shut};
+    ghost use Rattle.dm_node.specs.NodeSeen.{node_state_of, node_known_of};
+    ghost use Rattle.dm_node.specs.NodeStates.{NodeTellsNext, NodeIsOut, NodeNextTakesMemory};
+    ghost use Rattle.dm_node.specs.NodeStates.{NodeTellsFault, TakesMemoryAt, node_fed, node_settled};
+    ghost use Rattle.dm_node.specs.Answers.{IsUntold, as_answer, turn_in};
+    ghost use Rattle.dm_node.specs.declared.answer.Told.TheVariants.{Fault};
+
+    /// No neighbours and no connections. The node answers strangers. A message takes at most `first_max` octets before
+    /// the capabilities exchange, and `most` behind it. It never answers want of memory.
+    pub fn new(alloc: Global, node: dm_base::Node, first_max: u32, most: u32) -> Node
+        ensures node { (node_state_of result).node ≡ node }
+        ensures empty { (node_state_of result).peers ≡ [] }
+        ensures none { (node_state_of result).intakes ≡ none_there }
+        ensures first_max { (node_state_of result).first_max ≡ first_max }
+        ensures most { (node_state_of result).most ≡ most }
+        ensures nobody { node_known_of result ≡ [] }
+    {
+        Node {
+            neighbours: Neighbours::new(alloc, node),
+            known: Acquaintances::new(alloc),
+            intakes: Intakes::new(alloc),
+            first_max,
+            most,
+        }
+    }
+
+    /// The number of the neighbour of this host, upper and lower case taken as one. It never answers want of memory.
+    pub fn find(&self, host: &[u8]) -> Option<usize>
+        ensures found { IfSome result (λ i. host_at (node_state_of self.now).peers i ≡ Some (lower host.now)) }
+        ensures none { IfNone result ((j : ℕ)
+            → host_at (node_state_of self.now).peers j ≡ Some (lower host.now) → ⊥) }
+    {
+        self.neighbours.find(host)
+    }
+
+    /// The number of the neighbour that holds the connection. It never answers want of memory.
+    pub fn holder(&self, conn: Conn) -> Option<usize>
+        ensures found { IfSome result (λ i. holds_at (node_state_of self.now).peers conn i ≡ true) }
+        ensures none { IfNone result ((j : ℕ) → holds_at (node_state_of self.now).peers conn j ≡ false) }
+    {
+        self.intakes.owner(conn)
+    }
+
+    /// The neighbour of this number. It never answers want of memory.
+    pub fn peer(&self, index: usize) -> Option<&Peer>
+        ensures { option_copied result ≡ peer_at (node_state_of self.now).peers index }
+    {
+        self.neighbours.peer(index)
+    }
+
+    /// The state of the neighbour of this number. It never answers want of memory.
+    pub fn state_of(&self, index: usize) -> Option<State>
+        ensures { result
+            ≡ option_map (λ p. p.standing.core.state) (peer_at (node_state_of self.now).peers index) }
+    {
+        self.neighbours.state_of(index)
+    }
+
+    /// The neighbours in order of adding; None where one was removed. It never answers want of memory.
+    pub fn iter(&self) -> slice::Iter<'_, Option<Peer>>
+        ensures rest { iter_rest result ≡ (node_state_of self.now).peers }
+        ensures runs { IterYieldsInOrder (Option Peer) }
+    {
+        self.neighbours.iter()
+    }
+
+    /// What the other side said of itself by which the neighbour of the number was opened last (RFC 6733, 5.3): nobody
+    /// where it wasn't yet. It stays when the connection ends, and where the neighbour is set back. None where no
+    /// neighbour has the number. It never answers want of memory.
+    pub fn known(&self, index: usize) -> Option<&Acquaintance>
+        ensures known { option_copied result ≡ acquaintance_at (node_known_of self.now) index }
+        ensures there { is_some result ≡ is_some (peer_at (node_state_of self.now).peers index) }
+    {
+        self.known.get(index)
+    }
+
+    /// Whether the connection is there. It never answers want of memory.
+    pub fn has(&self, conn: Conn) -> bool
+        ensures { result ≡ is_there conn.0 (node_state_of self.now).intakes }
+    {
+        self.intakes.has(conn)
+    }
+
+    /// The connection is there from now on.
+    pub(crate) fn open(&mut self, alloc: Global, conn: Conn) -> Result<(), AllocError>
+        ensures opened { OnOk result (node_state_of self.new ≡ node_opened conn (node_state_of self.old)) }
+        ensures unchanged { OnErr result (node_state_of self.new ≡ node_state_of self.old) }
+        ensures memory { OnErr result (is_there conn.0 (node_state_of self.old).intakes ≡ false) }
+        ensures known { node_known_of self.new ≡ node_known_of self.old }
+    {
+        what_is_there_stays();
+        match self.intakes.open(alloc, conn, self.first_max) {
+            Ok(()) => Ok(()),
+            Err(error) => Err(error),
+        }
+    }
+
+    /// The connection, which nobody holds, is no more there. It never answers want of memory.
+    pub(crate) fn shut(&mut self, conn: Conn)
+        requires { IsFree (node_state_of self.old).peers conn }
+        ensures shut { node_state_of self.new ≡ node_shut conn (node_state_of self.old) }
+        ensures known { node_known_of self.new ≡ node_known_of self.old }
+    {
+        what_is_there_stays();
+        self.intakes.shut(conn);
+    }
+
+    /// Keeps a piece that came on the connection.
+    pub(crate) fn feed(&mut self, conn: Conn, piece: &[u8]) -> Result<(), AllocError>
+        ensures fed { OnOk result (node_state_of self.new ≡ node_fed conn piece.now (node_state_of self.old)) }
+        ensures unchanged { OnErr result (node_state_of self.new ≡ node_state_of self.old) }
+        ensures memory { OnErr result (is_there conn.0 (node_state_of self.old).intakes ≡ true) }
+        ensures known { node_known_of self.new ≡ node_known_of self.old }
+    {
+        what_is_there_stays();
+        self.intakes.feed(conn, piece)
+    }
+
+    /// What the answer closes, which nobody holds, is no more there, and what the neighbour that it is of holds takes
+    /// longer messages where that is open.
+    #[inline(always)]
+    pub(crate) fn settle(&mut self, answer: &Answer)
+        requires { (c : Conn) → actions_close answer.now.actions.items c.0 ≡ true
+            → IsFree (node_state_of self.old).peers c }
+        ensures settled { node_state_of self.new ≡ node_settled answer.now.neighbour
+            (node_state_of self.old).peers answer.now.actions.items (node_state_of self.old) }
+        ensures known { node_known_of self.new ≡ node_known_of self.old }
+    {
+        what_is_there_stays();
+        self.intakes.leave(answer.actions.as_slice());
+        raise_for(
+            &self.neighbours,
+            &mut self.intakes,
+            answer.neighbour,
+            self.most,
+        );
+    }
+
+    /// Tells the fault that stands at the front of the connection's stream, and throws away what came.
+    fn tell_fault<S: Strangers>(
+        &mut self,
+        alloc: Global,
+        strangers: &S,
+        conn: Conn,
+        answer: &mut Answer,
+    ) -> Result<(), AllocError>
+        requires fault { (i : Intake) × ((node_state_of self.old).intakes conn.0 ≡ Some i) × IsFaulty i }
+        requires none { answer.old.actions.items ≡ [] }
+        ensures arrived { OnOk result (answer.new.told ≡ Fault) }
+        ensures told { OnOk result (NodeTellsFault (S.policy strangers.now) conn (node_state_of self.old)
+            (as_answer answer.new) (node_state_of self.new)) }
+        ensures unchanged { OnErr result (node_state_of self.new ≡ node_state_of self.old) }
+        ensures memory { OnErr result
+            (TakesMemoryAt (S.policy strangers.now) conn [] (node_state_of self.old).peers) }
+        ensures met { OnOk result (MeetsAny known_after answer.new.neighbour (node_state_of self.old).peers
+            (node_state_of self.new).peers (node_known_of self.old) (node_known_of self.new)) }
+        ensures same { OnErr result (node_known_of self.new ≡ node_known_of self.old) }
+        ensures spelled { OnOk result (All SendsSpelling answer.new.actions.items) }
+    {
+        what_is_there_stays();
+        let event = NodeEvent::Arrived(conn, &[]);
+        match tell_event(
+            alloc,
+            &mut self.neighbours,
+            &mut self.known,
+            &self.intakes,
+            strangers,
+            event,
+            answer,
+        ) {
+            Ok(before) => {
+                self.intakes.break_off(alloc, conn);
+                reown(
+                    &self.neighbours,
+                    &mut self.intakes,
+                    before,
+                    answer.neighbour,
+                );
+                self.settle(answer);
+                answer.told = Told::Fault;
+                Ok(())
+            }
+            Err(_) => Err(AllocError),
+        }
+    }
+
+    /// Tells what stands at the front of what came on the connection, if anything does.
+    #[inline(always)]
+    fn tell_front<S: Strangers>(
+        &mut self,
+        alloc: Global,
+        strangers: &S,
+        conn: Conn,
+        answer: &mut Answer,
+    ) -> Result<(), AllocError>
+        requires { IsUntold answer.old }
+        ensures turn { OnOk result (IfSome (turn_in conn answer.new) (λ turn. NodeTellsNext (S.policy strangers.now)
+            conn (node_state_of self.old) turn (node_state_of self.new))) }
+        ensures none { OnOk result (IfNone (turn_in conn answer.new) (
+            NodeIsOut conn (node_state_of self.old) × (node_state_of self.new ≡ node_state_of self.old))) }
+        ensures unchanged { OnErr result (node_state_of self.new ≡ node_state_of self.old) }
+        ensures memory { OnErr result (NodeNextTakesMemory (S.policy strangers.now) conn (node_state_of self.old)
+            ⊎ AwaitsExchangeAt (S.policy strangers.now) conn (node_state_of self.old)) }
+        ensures met { OnOk result (IfSome (turn_in conn answer.new) (λ turn. NodeKnownBehind conn
+            (node_state_of self.old) turn (node_state_of self.new) (node_known_of self.old)
+            (node_known_of self.new))) }
+        ensures unmet { OnOk result (IfNone (turn_in conn answer.new)
+            (node_known_of self.new ≡ node_known_of self.old)) }
+        ensures same { OnErr result (node_known_of self.new ≡ node_known_of self.old) }
+        ensures spelled { OnOk result (All SendsSpelling answer.new.actions.items) }
+    {
+        what_is_there_stays();
+        match self.intakes.front(conn) {
+            Front::Nothing => Ok(()),
+            Front::Message(message) => match tell_message(
+                alloc,
+                &mut self.neighbours,
+                &mut self.known,
+                &self.intakes,
+                strangers,
+                conn,
+                message,
+                answer,
+            ) {
+                Ok(before) => {
+                    self.intakes.skip(conn);
+                    reown(
+                        &self.neighbours,
+                        &mut self.intakes,
+                        before,
+                        answer.neighbour,
+                    );
+                    self.settle(answer);
+                    answer.told = Told::Message;
+                    Ok(())
+                }
+                Err(error) => Err(error),
+            },
+            Front::Fault => self.tell_fault(alloc, strangers, conn, answer),
+        }
+    }
+
+    /// Tells the next whole message that came on the connection, or the fault of its stream, to the neighbour that it
+    /// concerns: the one that holds the connection, or whose host's CER it is, or else the porter, where `strangers`
+    /// have one and it is there. What concerns none goes by the policy for unknown hosts (RFC 6733, 5.3): a CER of a
+    /// host for which `strangers` have a template, where there are fewer neighbours than there may be, is told to a
+    /// neighbour of the template's configuration for it, which is added behind the others and holds the connection. It
+    /// is not added where it would be Closed behind its CER, as at one that it refuses. To all else the connection is
+    /// closed, behind an answer 3010 (DIAMETER_UNKNOWN_PEER) to a CER. By `()` each stranger is turned away so.
+    ///
+    /// A neighbour that was taken in so stays until it is removed ([`remove`](Node::remove)).
+    ///
+    /// Where the neighbour wasn't open and is open behind it, what is known of it ([`known`](Node::known)) is
+    /// from then on the CER or CEA by which it was opened: the message that was told, where it holds the connection
+    /// then, else the CER that waited for its CEA in an election (5.6.4). A CER that waits is kept as such.
+    ///
+    /// `answer` says which of the two was told, if either was, of which neighbour it is and what it asks for. Where
+    /// memory is wanted nothing changes and nothing is asked for, and it can be told again.
+    pub fn next<S: Strangers>(
+        &mut self,
+        alloc: Global,
+        strangers: &S,
+        conn: Conn,
+        answer: &mut Answer,
+    ) -> Result<(), AllocError>
+        ensures turn { OnOk result (IfSome (turn_in conn answer.new) (λ turn. NodeTellsNext (S.policy strangers.now)
+            conn (node_state_of self.old) turn (node_state_of self.new))) }
+        ensures none { OnOk result (IfNone (turn_in conn answer.new) (
+            NodeIsOut conn (node_state_of self.old) × (node_state_of self.new ≡ node_state_of self.old))) }
+        ensures unchanged { OnErr result (node_state_of self.new ≡ node_state_of self.old) }
+        // Memory is wanted only for what the message or the fault asks of its neighbour, for a stranger's CER, or for
+        // the copy of a CER or CEA that concerns no open neighbour.
+        ensures memory { OnErr result (NodeNextTakesMemory (S.policy strangers.now) conn (node_state_of self.old)
+            ⊎ AwaitsExchangeAt (S.policy strangers.now) conn (node_state_of self.old)) }
+        ensures met { OnOk result (IfSome (turn_in conn answer.new) (λ turn. NodeKnownBehind conn
+            (node_state_of self.old) turn (node_state_of self.new) (node_known_of self.old)
+            (node_known_of self.new))) }
+        ensures unmet { OnOk result (IfNone (turn_in conn answer.new)
+            (node_known_of self.new ≡ node_known_of self.old)) }
+        ensures same { OnErr result (node_known_of self.new ≡ node_known_of self.old) }
+        // The octets of each Send spell a message, an answer to a stranger too.
+        ensures spelled { OnOk result (All SendsSpelling answer.new.actions.items) }
+        // Behind an `Err` nothing is asked for.
+        ensures cleared { OnErr result (IsUntold answer.new) }
+    {
+        answer.clear();
+        match self.tell_front(alloc, strangers, conn, answer) {
+            Ok(()) => Ok(()),
+            Err(error) => {
+                answer.clear();
+                Err(error)
+            }
+        }
+    }
+}
