@@ -53,7 +53,7 @@ impl Node {
     ///
     /// # Errors
     /// `NoNeighbour` for a number that no neighbour has, what the neighbour's peer refuses, and `NoMemory`; never
-    /// `Held`, since a number in use isn't started. The session is as it was after each, and the order can be told
+    /// `Held`, since a number in use isn't started. The node is as it was after each, and the order can be told
     /// again.
     pub fn order(
         &mut self,

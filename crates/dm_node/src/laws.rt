@@ -104,7 +104,7 @@ pub fn cuts_alike()
 }
 
 /// However a stream is cut, what is told until nothing is left is the same: the turns, in order, of which neighbour
-/// each is, and the session behind them. So it is by every policy, since each makes one configuration for a host.
+/// each is, and the node behind them. So it is by every policy, since each makes one configuration for a host.
 pub fn one_telling()
     ensures once { NodeOneTelling }
     ensures cut { NodeCutsToldOut }

@@ -164,7 +164,7 @@ impl Node {
     ///
     /// # Errors
     /// `Known` just where a neighbour has its host, upper and lower case taken as one, whatever memory there is; else
-    /// `NoMemory`. The session is as it was after each, and the configuration is dropped.
+    /// `NoMemory`. The node is as it was after each, and the configuration is dropped.
     pub fn add(&mut self, config: Config) -> Result<usize, AddFault>
         ensures number { IfOk result (λ i. i ≡ length (node_state_of self.old).peers) }
         ensures added { OnOk result (node_state_of self.new
