@@ -1,3 +1,4 @@
 pub mod Fronts
 pub mod Framings
 pub mod Taking
+pub mod Feeding

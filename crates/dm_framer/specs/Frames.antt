@@ -19,6 +19,20 @@ pub record IsFrame (max : ℕ) (s : List ℕ) : Type 0 where
   pub aligned : length s % 4 ≡ 0
   pub most : length s ≤ max
 
+-- the Message Length that is told at the front of s is one that a frame may have: with four octets there, version 1,
+-- and a length that fits (3)
+pub record HasLength (max : ℕ) (s : List ℕ) (size : ℕ) : Type 0 where
+  pub there : 4 ≤ length s
+  pub version : slice_index s 0 ≡ 1
+  pub told : message_length s ≡ size
+  pub least : 20 ≤ size
+  pub aligned : size % 4 ≡ 0
+  pub most : size ≤ max
+
+-- a frame is a prefix of s
+abbrev pub BeginsWithFrame : ℕ → List ℕ → Type 0
+BeginsWithFrame max s = (frame rest : List ℕ) × IsFrame max frame × (s ≡ frame ++ rest)
+
 -- no frame is a prefix of s
 abbrev pub BeginsWithNoFrame : ℕ → List ℕ → Type 0
 BeginsWithNoFrame max s = (frame rest : List ℕ) → IsFrame max frame → s ≡ frame ++ rest → ⊥

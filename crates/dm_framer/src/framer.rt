@@ -1,14 +1,14 @@
 //! A stream of octets, cut into messages.
-ghost use Rattle.std.specs.Prelude.{◌≡◌, ◌++◌, ℕ, nat_eq, List, [], ◌∷◌, length, Option, None, Some, IfSome, IfNone};
-ghost use Rattle.std.specs.Prelude.{IsSomeAnd, IfOk, IfErr, IsErrOf, OnOk, OnErr, MatchResult};
+ghost use Rattle.std.specs.Prelude.{◌≡◌, ◌<◌, ◌≤◌, ◌-◌, ◌++◌, ℕ, nat_eq, List, [], ◌∷◌, length, take, Option, None};
+ghost use Rattle.std.specs.Prelude.{Some, IfSome, IfNone, IsSomeAnd, IfOk, IfErr, IsErrOf, OnOk, OnErr, MatchResult};
 ghost use Rattle.std.specs.List.{concat};
 ghost use Rattle.dm_framer.specs.declared.fault.FrameFault.{FrameFault};
-ghost use Rattle.dm_framer.specs.Frames.{HasFault, Framed, IsFrame, IsPartial, BeginsWithNoFrame};
+ghost use Rattle.dm_framer.specs.Frames.{HasFault, Framed, IsFrame, IsPartial, BeginsWithFrame, BeginsWithNoFrame};
 ghost use Rattle.dm_framer.specs.Stream.{Stream, new_stream, IsFrontFrame};
 
 use crate::FrameFault;
 use crate::buffer::drop_taken;
-use crate::front::front_len;
+use crate::front::{HEADER_FRONT, front_len, wanted};
 use std::alloc::Global;
 use std::marker::Model;
 
@@ -69,6 +69,50 @@ impl Framer {
         self.taken = drop_taken(&mut self.buffer, self.taken);
         self.buffer.extend_from_slice(piece)?;
         Ok(())
+    }
+
+    /// Adds as many octets of the next piece as the message at the front wants, and answers how many these are: all of
+    /// them where it isn't whole with fewer. So what stands behind it in the piece isn't copied.
+    ///
+    /// Answers what [`feed`](Framer::feed) answers. After each `Err` the framer is unchanged.
+    pub fn feed_front(&mut self, piece: &[u8]) -> Result<usize, FrameFault>
+        ensures within { IfOk result (λ size. size ≤ length piece.now) }
+        // They are appended to the octets held.
+        ensures fed { IfOk result (λ size. self.new
+            ≡ record self.old { octets = self.old.octets ++ take size piece.now }) }
+        // Octets are left only behind a whole message, and with fewer there is none.
+        ensures front { IfOk result (λ size. size < length piece.now
+            → BeginsWithFrame self.old.max (self.old.octets ++ take size piece.now)) }
+        ensures least { IfOk result (λ size. (k : ℕ) → k < size
+            → BeginsWithNoFrame self.old.max (self.old.octets ++ take k piece.now)) }
+        ensures err { OnErr result (self.new ≡ self.old) }
+        ensures kept { IfSome self.old.fault (λ fault. result ≡ Err fault) }
+        ensures memory { IfNone self.old.fault (IfErr result (λ fault. fault ≡ FrameFault.NoMemory)) }
+    {
+        let header = HEADER_FRONT.saturating_sub(self.len()).min(piece.len());
+        let (front, behind) = piece.split_at(header);
+        self.feed(front)?;
+        let more = wanted(&self.buffer[self.taken..], self.max, behind.len());
+        match self.feed(&behind[..more]) {
+            Ok(()) => Ok(header + more),
+            Err(fault) => {
+                self.take_back(header);
+                Err(fault)
+            }
+        }
+    }
+
+    /// Takes the last octets away again, so many as are held at most, as if they hadn't been fed. A fault that is kept
+    /// is forgotten, as `next` finds it again where it stands. It never answers want of memory.
+    pub fn take_back(&mut self, size: usize)
+        ensures { self.new ≡ record self.old {
+          octets = take (length self.old.octets - size) self.old.octets;
+          fault = None;
+        } }
+    {
+        let left = self.len().saturating_sub(size);
+        self.buffer.truncate(self.taken + left);
+        self.fault = None;
     }
 
     /// Hands out the next whole message; `None` where it isn't whole yet.

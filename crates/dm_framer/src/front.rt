@@ -1,6 +1,8 @@
 //! What stands at the front of a stream (RFC 6733, 3).
-ghost use Rattle.std.specs.Prelude.{◌≡◌, ◌≤◌, length, take, IfOk, IfErr, IfSome, IfNone, OnErr};
-ghost use Rattle.dm_framer.specs.Frames.{IsFrame, HasFault, IsPartial, BeginsWithNoFrame};
+ghost use Rattle.std.specs.Prelude.{◌≡◌, ◌<◌, ◌≤◌, ◌+◌, ◌⊎◌, ◌++◌, ℕ, List, length, take};
+ghost use Rattle.std.specs.Prelude.{IfOk, IfErr, IfSome, IfNone, OnErr};
+ghost use Rattle.dm_framer.specs.declared.fault.FrameFault.{FrameFault};
+ghost use Rattle.dm_framer.specs.Frames.{IsFrame, HasFault, HasLength, IsPartial, BeginsWithFrame, BeginsWithNoFrame};
 
 use crate::FrameFault;
 use byteorder::{BigEndian, ByteOrder};
@@ -10,6 +12,9 @@ const VERSION: u8 = 1;
 
 /// The octets of a message's header, and so of the least message.
 const HEADER_LEN: u32 = 20;
+
+/// The octets of a header by which its Message Length is told.
+pub(crate) const HEADER_FRONT: usize = 4;
 
 /// How many octets the message at the front takes; `None` where it isn't whole yet, or nothing is there. It never
 /// answers want of memory.
@@ -50,4 +55,33 @@ pub fn front_len(octets: &[u8], max: u32) -> Result<Option<usize>, FrameFault>
         return Ok(None);
     }
     Ok(Some(size))
+}
+
+/// The Message Length at the front, where it is told, and is one that a message may have. It never answers want of
+/// memory.
+fn length_told(octets: &[u8], max: u32) -> Option<usize>
+    ensures told { IfSome result (HasLength max octets.now) }
+    ensures none { IfNone result ((length octets.now < 4) ⊎ ((fault : FrameFault) × HasFault max octets.now fault)) }
+{
+    if octets.len() < HEADER_FRONT {
+        return None;
+    }
+    match front_len(octets, max) {
+        Ok(_) => Some(BigEndian::read_u24(&octets[1..]) as usize),
+        Err(_) => None,
+    }
+}
+
+/// How many of so many octets that come the message at the front wants: all of them where it isn't whole with fewer.
+/// It never answers want of memory.
+pub(crate) fn wanted(octets: &[u8], max: u32, coming: usize) -> usize
+    ensures within { result ≤ coming }
+    ensures front { result < coming → (t : List ℕ) → length t ≡ result → BeginsWithFrame max (octets.now ++ t) }
+    ensures least { (t : List ℕ) → 4 ≤ length octets.now → length t < result
+        → BeginsWithNoFrame max (octets.now ++ t) }
+{
+    match length_told(octets, max) {
+        Some(size) => size.saturating_sub(octets.len()).min(coming),
+        None => coming,
+    }
 }
