@@ -1,5 +1,5 @@
 -- What a node builds is good under the base dictionary.
-use Rattle.std.proofs.Common.{◌≡◌, ℕ, Bool, true, false, nat_lt, nat_le, Option, None, Some, List, [], ◌∷◌, ◌++◌, map, length, refl, sym, arith, eqb-true, append-nil, if◌then◌else◌}
+use Rattle.std.proofs.Common.{◌≡◌, ℕ, Bool, true, false, nat_lt, nat_le, Option, None, Some, List, [], ◌∷◌, ◌++◌, map, length, refl, arith, eqb-true, if◌then◌else◌}
 use Rattle.std.specs.List.{list_all}
 use Rattle.std.specs.Str.{is_utf8}
 use Rattle.std.proofs.lemmas.Bool.{and_parts, ltb-true, le-ltb}
@@ -13,7 +13,7 @@ use Rattle.dm_value.specs.Flaws.{is_visible, is_visible_text}
 use Rattle.dm_tables.specs.declared.def.CommandDef.{CommandDef}
 use Rattle.dm_tables.specs.Base.{base_avps, base_definitions}
 use Rattle.dm_tables.specs.Base as base
-use Rattle.dm_dict.specs.Faults.{faults, wrong_bits, command_for, group_faults, member_faults, list_faults_by}
+use Rattle.dm_dict.specs.Faults.{faults, wrong_bits, command_for, group_faults, member_faults, list_faults_with_groups}
 use Rattle.dm_base.specs.declared.node.Node.{Node}
 use Rattle.dm_wire.specs.Members.{members}
 use Rattle.dm_base.specs.Extra.{vendor_applications, supported_vendors, own_firmware, own_state, answer_state}
@@ -99,7 +99,7 @@ specific_right : (a : VendorApplication) → Right vendor_specific_application_i
 unfolding specific_avp
 specific_right a = record { is_defined = refl; faultless = by a.accounting } where
   by : (b : Bool)
-      → member_faults (list_faults_by (group_faults 7 base_avps) base_avps base.vendor_specific_application_id_def.rule)
+      → member_faults (list_faults_with_groups (group_faults 7 base_avps) base_avps base.vendor_specific_application_id_def.rule)
       (specific_avp a)
       (members (canonical_list (number_avp vendor_id a.vendor ∷ number_avp (id_code b) a.application ∷ []))) ≡ []
   by true = rw (inside true a.vendor a.application) refl

@@ -4,7 +4,6 @@ use Rattle.dm_wire.specs.Canonical.{canonical_list}
 use Rattle.dm_wire.specs.Members.{members}
 use Rattle.dm_base.specs.Codes.{vendor_id}
 use Rattle.dm_base.specs.Built.{number_avp, id_code}
-use Rattle.dm_base.specs.declared.vendor_application.VendorApplication.{VendorApplication}
 
 -- its octets are two AVPs
 pub inside : (b : Bool) (v n : ℕ)

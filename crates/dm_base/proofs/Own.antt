@@ -1,5 +1,5 @@
 -- What a node builds is of the kind that it was built as.
-use Rattle.std.proofs.Common.{◌≡◌, ◌<◌, ◌^◌, ℕ, pos, Bool, true, false, nat_le, Option, None, Some, Ok, List, [], ◌∷◌, ◌++◌, map, flat_map, refl, sym, ◌∙◌, ap, append-nil, if◌then◌else◌}
+use Rattle.std.proofs.Common.{◌≡◌, ◌<◌, ◌^◌, ℕ, pos, Bool, true, false, nat_le, Option, None, Some, Ok, List, [], ◌∷◌, ◌++◌, map, flat_map, refl, ◌∙◌, ap, append-nil, if◌then◌else◌}
 use Rattle.std.specs.List.{list_all}
 use Rattle.std.proofs.lemmas.Bool.{and_parts, ltb-true}
 use Rattle.byteorder.specs.Endian.{big_number}

@@ -9,7 +9,7 @@ use Rattle.dm_tables.specs.declared.rule.Entry.{Entry}
 use Rattle.dm_tables.specs.declared.def.AvpDef.{AvpDef}
 use Rattle.dm_tables.specs.Definitions.{is_coded}
 use Rattle.dm_dict.specs.Rules.{definition, counts, counted_avps, count, entry_for, allows}
-use Rattle.dm_dict.specs.Faults.{Fault, avp_faults, excess_faults, entry_faults, list_faults_by, group_faults}
+use Rattle.dm_dict.specs.Faults.{Fault, avp_faults, excess_faults, entry_faults, list_faults_with_groups, group_faults}
 use Rattle.dm_dict.specs.Limits.{group_limit}
 
 pub data Part : Type 0 where
@@ -199,7 +199,7 @@ entries_right avps rule ps l (e ∷ es) s h =
 -- a list of a shape that keeps to the rule has no faults
 pub shaped_right : (avps : List AvpDef) (rule : List Entry) (ps : List Part)
     (l : List Avp)
-    → IsShaped avps ps l → keeps avps rule ps ≡ true → list_faults_by (in_message avps) avps rule l ≡ []
+    → IsShaped avps ps l → keeps avps rule ps ≡ true → list_faults_with_groups (in_message avps) avps rule l ≡ []
 shaped_right avps rule ps l s h =
     let (parts, entries) =
     and_parts (list_all (part_keeps avps rule) ps) (list_all (entry_keeps avps rule ps) rule) h in

@@ -7,11 +7,11 @@ use Rattle.dm_wire.specs.declared.avp.Avp.{Avp}
 use Rattle.dm_base.specs.declared.kind.Caps.{Caps}
 use Rattle.dm_base.specs.declared.extras.Extras.{Extras}
 use Rattle.dm_base.specs.declared.node.Node.{Node}
-use Rattle.dm_base.specs.Fit.{is_number, is_optional_number, are_ids}
+use Rattle.dm_base.specs.Fit.{is_number, is_optional_number}
 use Rattle.std.specs.List.{list_all}
 use Rattle.dm_base.specs.Kinds.{is_plain, data_of, number_in}
 use Rattle.dm_base.specs.Senders.{number_told, numbers_of, numbers_told}
-use Rattle.dm_base.specs.Extra.{vendor_applications, supported_vendors, own_firmware, own_state, answer_state}
+use Rattle.dm_base.specs.Extra.{vendor_applications, supported_vendors, own_firmware, own_state}
 use Rattle.dm_base.specs.Codes.{origin_state_id, firmware_revision, supported_vendor_id, product_name, vendor_id}
 use Rattle.dm_base.specs.Codes.{auth_application_id, acct_application_id, failed_avp, longest_failed}
 use Rattle.dm_base.specs.Built.{avp, number_avp, address_avp, application_avps, behind_addresses, behind_failed, capabilities, failed_avps, specific_avp, state_avps, firmware_avps}

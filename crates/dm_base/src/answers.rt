@@ -1,12 +1,12 @@
 //! The answers that a node sends to a peer (RFC 6733, 5.3 to 5.5 and 7.2).
-ghost use Rattle.std.specs.Prelude.{◌≡◌, false, ◌<◌, ◌^◌, IfOk};
+ghost use Rattle.std.specs.Prelude.{◌≡◌, ◌<◌, ◌^◌, IfOk};
 ghost use Rattle.std.specs.Option.{option_copied};
 ghost use Rattle.dm_wire.specs.Limits.{HeaderFits};
 ghost use Rattle.dm_base.specs.Spelled.{HasSpelling};
 ghost use Rattle.dm_base.specs.declared.kind.Kind.TheVariants as kinds;
 ghost use Rattle.dm_base.specs.Kinds.{IsGood, IsBase};
 ghost use Rattle.dm_base.specs.Codes.{capabilities_exchange, device_watchdog, disconnect_peer};
-ghost use Rattle.dm_base.specs.Built.{answer_header, built_cea, built_answer, built_error};
+ghost use Rattle.dm_base.specs.Built.{built_cea, built_answer, built_error};
 
 use crate::Node;
 use crate::codes::RESULT_CODE;

@@ -1,7 +1,6 @@
 //! What a node says of itself beyond what it must.
-ghost use Rattle.std.specs.Prelude.{◌≡◌, ◌⊎◌, ◌↔◌, ◌++◌, true, nat_lt, length, take, IfOk, IfErr, IsErrOf};
+ghost use Rattle.std.specs.Prelude.{◌≡◌, ◌⊎◌, ◌↔◌, true, IfOk, IfErr, IsErrOf};
 ghost use Rattle.std.specs.List.{list_all};
-ghost use Rattle.dm_base.specs.Codes.{max_ids};
 ghost use Rattle.dm_base.specs.Fit.{are_ids, is_vendor_application, are_vendor_applications, is_optional_number};
 ghost use Rattle.dm_base.specs.Specific.{ids_of};
 ghost use Rattle.dm_base.specs.Refusals.{are_extras_long};
@@ -37,8 +36,8 @@ fn has_numbers(application: &VendorApplication)
     let _application = application.application;
 }
 
-/// So do those of all applications.
-fn have_numbers(applications: &[VendorApplication])
+/// The numbers of all applications fit 32 bits, as their types say.
+fn all_have_numbers(applications: &[VendorApplication])
     ensures { list_all is_vendor_application applications.now ≡ true }
 {
     for application in applications {
@@ -88,7 +87,7 @@ impl Extras {
             return Err(ExtrasFault::TooLong);
         }
         let ids = ids_of(alloc, applications.as_slice())?;
-        have_numbers(applications.as_slice());
+        all_have_numbers(applications.as_slice());
         all_numbers(vendors.as_slice());
         is_number(firmware);
         is_number(state_id);

@@ -44,7 +44,7 @@ pub use lists::{IdList, IpList};
 pub use names::is_name;
 pub use node::Node;
 pub use node_fault::NodeFault;
-pub use order::host_order;
+pub use order::{host_order, lower_octet};
 pub use requests::{cer, dpr, dwr};
 pub use sender_ref::SenderRef;
 pub use senders::{disconnect_cause, sender};

@@ -4,7 +4,8 @@ ghost use Rattle.dm_base.specs.Before.{Before, lower, lower_octet, order_of_host
 
 use std::cmp::Ordering;
 
-fn lower_octet(octet: u8) -> u8
+/// The octet, with `A` to `Z` taken as `a` to `z`. It never answers want of memory.
+pub fn lower_octet(octet: u8) -> u8
     ensures { result ≡ lower_octet octet }
 {
     if octet >= 65 && octet <= 90 {

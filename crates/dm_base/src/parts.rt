@@ -19,7 +19,7 @@ use crate::codes::{
 use crate::limits::LONGEST_FAILED;
 use crate::{Node, VendorApplication};
 use dm_dict::{Ip, NoMemory};
-use dm_wire::{Avp, AvpRef, Octets, encode_avps, put_avp};
+use dm_wire::{Avp, AvpRef, Octets, encode_avps, push_avp};
 use std::alloc::Global;
 use std::slice;
 
@@ -197,7 +197,7 @@ fn id_code(accounting: bool) -> u32
 fn put_short(out: &mut Vec<u8>, avp: AvpRef<'_>) -> Result<(), NoMemory>
     ensures { OnOk result (out.new.items ≡ out.old.items ++ canonical_avp (avp_of avp.entry)) }
 {
-    match put_avp(out, avp) {
+    match push_avp(out, avp) {
         Ok(()) => Ok(()),
         Err(_) => Err(NoMemory),
     }

@@ -14,7 +14,7 @@ use crate::laws::built_is_spelled;
 use crate::parts::{answer_state, borrowed};
 use dm_wire::codes::limits::HEADER_LEN;
 use dm_wire::laws::{avp_sized, canonical_spells};
-use dm_wire::{Header, WireFault, header_octets, put_avp};
+use dm_wire::{Header, WireFault, header_octets, push_avp};
 use std::alloc::Global;
 
 /// The octets that Result-Code, Origin-Host and Origin-Realm take.
@@ -47,7 +47,7 @@ fn put_state(out: &mut Vec<u8>, state: Option<u32>) -> Result<(), WireFault>
     ensures memory { IfErr result (λ fault. fault ≡ WireFault.NoMemory) }
 {
     if let Some(number) = state {
-        put_avp(out, borrowed(ORIGIN_STATE_ID, &number.to_be_bytes()))?;
+        push_avp(out, borrowed(ORIGIN_STATE_ID, &number.to_be_bytes()))?;
     }
     Ok(())
 }
@@ -59,9 +59,9 @@ fn put_list(out: &mut Vec<u8>, node: &Node) -> Result<(), WireFault>
         ++ canonical_list (result_avp success ∷ origin node.now [])) }
     ensures memory { IfErr result (λ fault. fault ≡ WireFault.NoMemory) }
 {
-    put_avp(out, borrowed(RESULT_CODE, &SUCCESS.to_be_bytes()))?;
-    put_avp(out, borrowed(ORIGIN_HOST, node.host.as_slice()))?;
-    put_avp(out, borrowed(ORIGIN_REALM, node.realm.as_slice()))?;
+    push_avp(out, borrowed(RESULT_CODE, &SUCCESS.to_be_bytes()))?;
+    push_avp(out, borrowed(ORIGIN_HOST, node.host.as_slice()))?;
+    push_avp(out, borrowed(ORIGIN_REALM, node.realm.as_slice()))?;
     Ok(())
 }
 
@@ -74,7 +74,7 @@ fn answer_size(node: &Node, state: Option<u32>) -> usize
 }
 
 /// All AVPs of the answer, appended.
-fn put_answer(out: &mut Vec<u8>, node: &Node, state: Option<u32>) -> Result<(), WireFault>
+fn put_answer_avps(out: &mut Vec<u8>, node: &Node, state: Option<u32>) -> Result<(), WireFault>
     ensures put { OnOk result (out.new.items ≡ out.old.items
         ++ canonical_list (result_avp success ∷ origin node.now (state_avps state))) }
     ensures memory { IfErr result (λ fault. fault ≡ WireFault.NoMemory) }
@@ -105,6 +105,6 @@ pub fn success_octets(alloc: Global, node: &Node, to: &Header) -> Result<Vec<u8>
     };
     let mut octets = Vec::with_capacity(alloc, size)?;
     octets.extend_from_slice(&header)?;
-    put_answer(&mut octets, node, state)?;
+    put_answer_avps(&mut octets, node, state)?;
     Ok(octets)
 }

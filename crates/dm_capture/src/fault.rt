@@ -1,5 +1,4 @@
 //! What a capture can have wrong.
-ghost use Rattle.std.specs.Prelude.{◌≡◌};
 
 use thiserror::Error;
 

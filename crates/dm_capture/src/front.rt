@@ -1,5 +1,5 @@
 //! What stands at the front of the octets that are left.
-ghost use Rattle.std.specs.Prelude.{◌≡◌, ◌<◌, ◌≤◌, length, take, IfOk, IfErr, IfSome, IfNone};
+ghost use Rattle.std.specs.Prelude.{◌<◌, ◌≤◌, length, take, IfOk, IfErr, IfSome, IfNone};
 ghost use Rattle.dm_capture.specs.Items.{IsItem, IsPart, HasFrontFault};
 
 use crate::fault::FaultKind;

@@ -1,5 +1,5 @@
 //! A packet that was captured.
-ghost use Rattle.std.specs.Prelude.{◌≡◌, ◌≤◌, ◌+◌, length, IfOk, IfErr};
+ghost use Rattle.std.specs.Prelude.{◌≡◌, ◌≤◌, ◌+◌, length, IfOk};
 ghost use Rattle.dm_capture.specs.Packets.{captured_of, packet_of};
 
 use crate::time::Time;

@@ -5,7 +5,7 @@ ghost use Rattle.std.specs.Prelude.{IfErr, IfOk, IsSomeAnd, OnOk, OnErr};
 ghost use Rattle.dm_capture.specs.declared.front.Holds.TheVariants.{PacketRecord};
 ghost use Rattle.dm_capture.specs.declared.front.Layout.TheVariants.{Start};
 ghost use Rattle.dm_capture.specs.Captures.{Progress, new_progress, passed, Hands};
-ghost use Rattle.dm_capture.specs.Captures.{StopsReading, EndsWith, capped, packets_after};
+ghost use Rattle.dm_capture.specs.Captures.{EndsWith, capped};
 ghost use Rattle.dm_capture.specs.Items.{IsItem, IsPart, HasFrontFault};
 ghost use Rattle.dm_capture.specs.Packets.{captured_of, packet_of};
 

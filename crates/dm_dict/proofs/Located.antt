@@ -12,14 +12,14 @@ use Rattle.dm_tables.specs.declared.def.AvpDef.{AvpDef}
 use Rattle.dm_tables.specs.declared.def.CommandDef.{CommandDef}
 use Rattle.dm_tables.specs.Definitions.{Definitions}
 use Rattle.dm_dict.specs.Codes.{avp_not_allowed, invalid_hdr_bits}
-use Rattle.dm_dict.specs.Faults.{Fault, fault_with_avp, fault_without_avp, wrong_bits, data_faults, avp_faults, entry_faults, list_faults_by, member_faults, group_faults, is_failed_avp, command_for, message_faults, faults}
+use Rattle.dm_dict.specs.Faults.{Fault, fault_with_avp, fault_without_avp, wrong_bits, data_faults, avp_faults, entry_faults, list_faults_with_groups, member_faults, group_faults, is_failed_avp, command_for, message_faults, faults}
 use Rattle.dm_dict.specs.Limits.{group_limit}
 use Rattle.dm_dict.specs.Rules.{definition, entry_for, allows}
 use Rattle.dm_dict.specs.declared.path.Step.{Step}
 use Rattle.dm_dict.specs.declared.path.Path.{Path}
 use Rattle.dm_dict.specs.Locating.{told_behind}
 use Rattle.dm_dict.specs.Numbers.{is_group_type, is_wanted}
-use Rattle.dm_dict.specs.Located.{Located, step_at, here, under, kind_located, group_part, no_groups, avp_located, occurrence, each_located, list_located_by, members_located, group_located, message_located, located_faults}
+use Rattle.dm_dict.specs.Located.{Located, step_at, here, under, kind_located, group_part, no_groups, avp_located, occurrence, each_located, list_located_with_groups, members_located, group_located, message_located, located_faults}
 
 fault_of : Located → Fault
 fault_of f = f.fault
@@ -89,7 +89,7 @@ each_same groups plain same avps rule p (a ∷ l) =
 list_same : (groups : ℕ → List Entry → Avp → List Located) (plain : List Entry → Avp → List Fault)
     → ((i : ℕ) (rule : List Entry) (a : Avp) → map fault_of (groups i rule a) ≡ plain rule a)
     → (avps : List AvpDef) (rule : List Entry) (l : List Avp)
-    → map fault_of (list_located_by groups avps rule l) ≡ list_faults_by plain avps rule l
+    → map fault_of (list_located_with_groups groups avps rule l) ≡ list_faults_with_groups plain avps rule l
 list_same groups plain same avps rule l =
     map-append fault_of (each_located groups avps rule [] l) (map here (flat_map (entry_faults avps rule l) rule))
     ∙ ap (λ t. t ++ map fault_of (map here (flat_map (entry_faults avps rule l) rule)))
@@ -100,10 +100,10 @@ list_same groups plain same avps rule l =
 members_same : (n : ℕ) (avps : List AvpDef) (i : ℕ) (rule : List Entry) (a : Avp)
     → ((k : ℕ) (r : List Entry) (b : Avp) → map fault_of (group_located n avps k r b) ≡ group_faults n avps r b)
     → (o : Option (List Avp))
-    → map fault_of (members_located (list_located_by (group_located n avps) avps rule) i a o)
-    ≡ member_faults (list_faults_by (group_faults n avps) avps rule) a o
+    → map fault_of (members_located (list_located_with_groups (group_located n avps) avps rule) i a o)
+    ≡ member_faults (list_faults_with_groups (group_faults n avps) avps rule) a o
 members_same n avps i rule a same None =
-    map_here (member_faults (list_faults_by (group_faults n avps) avps rule) a None)
+    map_here (member_faults (list_faults_with_groups (group_faults n avps) avps rule) a None)
 members_same n avps i rule a same (Some l) =
     map_under (step_at i a) _ ∙ list_same (group_located n avps) (group_faults n avps) same avps rule l
 
@@ -119,8 +119,8 @@ located_are_faults d m = by (command_for d m.header) where
   by None = refl
   by (Some c) =
       map-append fault_of (map here (if wrong_bits m.header then fault_without_avp invalid_hdr_bits else []))
-      (list_located_by (group_located group_limit d.avps) d.avps c.rule m.avps)
-      ∙ ap (λ t. t ++ map fault_of (list_located_by (group_located group_limit d.avps) d.avps c.rule m.avps)) (map_here _)
+      (list_located_with_groups (group_located group_limit d.avps) d.avps c.rule m.avps)
+      ∙ ap (λ t. t ++ map fault_of (list_located_with_groups (group_located group_limit d.avps) d.avps c.rule m.avps)) (map_here _)
       ∙ ap (λ t. (if wrong_bits m.header then fault_without_avp invalid_hdr_bits else []) ++ t)
       (list_same (group_located group_limit d.avps) (group_faults group_limit d.avps) (group_same group_limit d.avps) d.avps c.rule m.avps)
 

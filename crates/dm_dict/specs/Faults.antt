@@ -100,8 +100,8 @@ entry_faults avps rule l e =
     ++ excess_faults e.max (counted_avps avps rule l e)
 
 -- a list of AVPs under a rule: each AVP in order, and then each entry of the rule in order
-abbrev pub list_faults_by : (List Entry → Avp → List Fault) → List AvpDef → List Entry → List Avp → List Fault
-list_faults_by groups avps rule l =
+abbrev pub list_faults_with_groups : (List Entry → Avp → List Fault) → List AvpDef → List Entry → List Avp → List Fault
+list_faults_with_groups groups avps rule l =
     flat_map (λ a. avp_faults groups (allows (entry_for rule (definition avps a))) a (definition avps a)) l
     ++ flat_map (entry_faults avps rule l) rule
 
@@ -115,10 +115,11 @@ member_faults inside a (Some l) = inside l
 -- groups be nested and has no limit; here there is one (own), so that no message sets how deep the walk goes.
 abbrev pub group_faults : ℕ → List AvpDef → List Entry → Avp → List Fault
 group_faults zero avps rule a = fault_with_avp invalid_avp_value a
-group_faults (suc n) avps rule a = member_faults (list_faults_by (group_faults n avps) avps rule) a (members a.bytes)
+group_faults (suc n) avps rule a =
+    member_faults (list_faults_with_groups (group_faults n avps) avps rule) a (members a.bytes)
 
 abbrev pub list_faults : ℕ → List AvpDef → List Entry → List Avp → List Fault
-list_faults n avps rule l = list_faults_by (group_faults n avps) avps rule l
+list_faults n avps rule l = list_faults_with_groups (group_faults n avps) avps rule l
 
 -- an answer that reports an error: all of them have one rule (7.2), which stands at command 0 with the E bit (own)
 abbrev pub is_error_answer : Header → Bool

@@ -69,8 +69,9 @@ each_located groups avps rule p (a ∷ l) =
     ++ each_located groups avps rule (p ++ a ∷ []) l
 
 -- a list of AVPs under a rule: each AVP in order, and then each entry of the rule in order
-abbrev pub list_located_by : (ℕ → List Entry → Avp → List Located) → List AvpDef → List Entry → List Avp → List Located
-list_located_by groups avps rule l =
+abbrev pub list_located_with_groups : (ℕ → List Entry → Avp → List Located) → List AvpDef → List Entry → List Avp
+    → List Located
+list_located_with_groups groups avps rule l =
     each_located groups avps rule [] l ++ map here (flat_map (entry_faults avps rule l) rule)
 
 -- the members of the group that is the nth of its code and vendor
@@ -82,10 +83,10 @@ members_located inside nth a (Some l) = map (under (step_at nth a)) (inside l)
 abbrev pub group_located : ℕ → List AvpDef → ℕ → List Entry → Avp → List Located
 group_located zero avps i rule a = map here (group_faults zero avps rule a)
 group_located (suc n) avps i rule a =
-    members_located (list_located_by (group_located n avps) avps rule) i a (members a.bytes)
+    members_located (list_located_with_groups (group_located n avps) avps rule) i a (members a.bytes)
 
 abbrev pub list_located : ℕ → List AvpDef → List Entry → List Avp → List Located
-list_located n avps rule l = list_located_by (group_located n avps) avps rule l
+list_located n avps rule l = list_located_with_groups (group_located n avps) avps rule l
 
 -- all faults of a message, each with its path, in the order of `faults`
 abbrev pub message_located : List AvpDef → Message → Option CommandDef → List Located

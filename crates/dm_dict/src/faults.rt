@@ -38,7 +38,7 @@ fn listed<'a>(
 }
 
 /// All faults of a message of this header, whose AVPs the octets spell, in order.
-fn listed_spelled<'a>(
+fn faults_of_spelled<'a>(
     alloc: Global,
     dictionary: &Linked,
     header: &Header,
@@ -93,6 +93,6 @@ impl Dictionary {
         ensures memory { OnErr result ((l : List Avp) → SpellsList l message.now.rest.now
             → has_none (faults self.now (record { header = message.now.header; avps = l })) ≡ false) }
     {
-        listed_spelled(alloc, &self.linked, &message.header, message.rest)
+        faults_of_spelled(alloc, &self.linked, &message.header, message.rest)
     }
 }

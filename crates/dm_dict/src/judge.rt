@@ -4,12 +4,10 @@ ghost use Rattle.dm_wire.specs.declared.avp.Avp.{Avp};
 ghost use Rattle.dm_wire.specs.Borrowed.{Lists};
 ghost use Rattle.dm_wire.specs.Spelling.{SpellsList};
 ghost use Rattle.dm_tables.specs.Tables.{defined};
-ghost use Rattle.dm_dict.specs.Apart.{IsFit};
-ghost use Rattle.dm_dict.specs.Faults.{command_for, wrong_bits, list_faults, faults, first, has_none};
+ghost use Rattle.dm_dict.specs.Faults.{command_for, wrong_bits, faults, first, has_none};
 ghost use Rattle.dm_dict.specs.Found.{finds_missing};
 ghost use Rattle.dm_dict.specs.Judgement.{shown};
-ghost use Rattle.dm_dict.specs.Limits.{group_limit};
-ghost use Rattle.dm_dict.specs.Linked.{IsLinked, IsRule};
+ghost use Rattle.dm_dict.specs.Linked.{IsLinked};
 ghost use Rattle.dm_dict.specs.Links.{rule_links};
 
 use crate::codes::{COMMAND_UNSUPPORTED, INVALID_HDR_BITS};

@@ -1,7 +1,7 @@
 //! Tables with the links of their rules, so that an AVP's place under a rule is found by its code (RFC 6733, 3.2
 //! and 4.1).
 ghost use Rattle.std.specs.Prelude.{◌≡◌, ◌<◌, ◌++◌, ◌%◌, [], ℕ, true, nat_eq, Option, None, Some, find, length};
-ghost use Rattle.std.specs.Prelude.{map, option_map, slice_get, slice_index, IfOk, IfSome, OnOk};
+ghost use Rattle.std.specs.Prelude.{option_map, slice_get, slice_index, IfOk, IfSome, OnOk};
 ghost use Rattle.std.specs.List.{position_from};
 ghost use Rattle.std.specs.Option.{option_and_then, option_copied};
 ghost use Rattle.dm_tables.specs.declared.def.AvpDef.{AvpDef};
@@ -159,13 +159,13 @@ impl Linked {
         ensures linked { OnOk result (IsLinked self.new) }
     {
         let guesses = NameGuesses::of_avps(alloc, self.tables.avps.as_slice())?;
-        let done = self.link_by(alloc, &guesses);
+        let done = self.link_with_guesses(alloc, &guesses);
         drop(guesses);
         done
     }
 
     /// The same, by guesses of the names.
-    fn link_by(&mut self, alloc: Global, guesses: &NameGuesses) -> Result<(), NoMemory>
+    fn link_with_guesses(&mut self, alloc: Global, guesses: &NameGuesses) -> Result<(), NoMemory>
         requires dictionary { IsDictionary self.old.tables }
         requires guesses { AreGuessed self.old.tables.avps.items guesses.now.places.items }
         requires avps { self.old.avps ≡ [] }

@@ -7,7 +7,7 @@ ghost use Rattle.dm_wire.specs.Borrowed.{avp_of};
 ghost use Rattle.dm_dict.specs.declared.path.Path.{Path};
 ghost use Rattle.dm_dict.specs.Linked.{IsLinked};
 ghost use Rattle.dm_dict.specs.Located.{occurrence};
-ghost use Rattle.dm_dict.specs.Numbers.{is_key_of, times_counted, is_group_type, is_wanted, AreNumbered};
+ghost use Rattle.dm_dict.specs.Numbers.{is_key_of, times_counted, is_wanted, AreNumbered};
 ghost use Rattle.dm_dict.specs.Rules.{definition};
 
 use crate::linked::Linked;

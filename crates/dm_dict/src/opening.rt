@@ -1,6 +1,5 @@
 //! Dictionaries without the lists of their Enumerated AVPs (RFC 6733, 4.3.1).
 ghost use Rattle.std.specs.Prelude.{◌≡◌, map};
-ghost use Rattle.dm_tables.specs.declared.def.AvpDef.{AvpDef};
 ghost use Rattle.dm_tables.specs.Tables.{defined};
 ghost use Rattle.dm_dict.specs.Linked.{IsLinked};
 ghost use Rattle.dm_dict.specs.WithoutLists.{without_list, without_lists};

@@ -6,7 +6,7 @@ use Rattle.std.proofs.lemmas.Bool.{and_parts}
 use Rattle.std.proofs.lemmas.List.Folds.{list_all-append}
 use Rattle.dm_grammar.specs.Tokens.{Word, tokens}
 use Rattle.dm_grammar.specs.Items as written
-use Rattle.dm_grammar.specs.Items.{AvpParts, GroupParts, Written}
+use Rattle.dm_grammar.specs.Items.{Written}
 use Rattle.dm_grammar.specs.Items.VendorReference.{NumberedBy}
 use Rattle.dm_grammar.specs.Spelling.{AreItems}
 use Rattle.dm_grammar.specs.Syntax.{IsSyntaxFault}

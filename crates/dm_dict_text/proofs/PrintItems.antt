@@ -17,7 +17,7 @@ use Rattle.dm_grammar.specs.Items as written
 use Rattle.dm_grammar.specs.Items.{Written, VendorReference}
 use Rattle.dm_grammar.specs.Items.VendorReference.{NumberedBy}
 use Rattle.dm_grammar.specs.Items.Written.{VendorIs, AvpIs, GroupIs, CommandIs}
-use Rattle.dm_grammar.specs.Spelling.{Phrase, Spells, Ends, AreItems}
+use Rattle.dm_grammar.specs.Spelling.{Spells, Ends, AreItems}
 use Rattle.dm_grammar.specs.Spelling as spelling
 use Rattle.dm_grammar.specs.Spelling.Phrase.{Literal, ◌then◌}
 use Rattle.dm_tables.specs.declared.rule.Entry.{Entry}

@@ -1,6 +1,6 @@
 //! How often an entry of a dictionary text lets its AVP stand (RFC 6733, 3.2).
 ghost use Rattle.std.specs.Prelude.{◌≡◌, [], Some, option_map, IfOk, IfErr};
-ghost use Rattle.dm_grammar.specs.Views.{view_option, view_qualifier, view_entry};
+ghost use Rattle.dm_grammar.specs.Views.{view_option, view_entry};
 ghost use Rattle.dm_dict_text.specs.Meaning.{number, plain_min, starred_min, low_or, min_of, max_of};
 ghost use Rattle.dm_dict_text.specs.Faults.{first_dict_fault, option_faults, above_faults, bound_faults};
 

@@ -2,7 +2,7 @@
 ghost use Rattle.std.specs.Prelude.{◌≡◌, [], Some, map, nat_eq, option_map, unwrap_or, OnOk, IfOk, IfErr};
 ghost use Rattle.std.specs.List.{list_any};
 ghost use Rattle.std.specs.Cmp.Lexicographic.{pointwise};
-ghost use Rattle.dm_grammar.specs.Views.{view_word, view_vendor, view_reference_option, view_option, view_command};
+ghost use Rattle.dm_grammar.specs.Views.{view_word, view_vendor, view_reference_option, view_command};
 ghost use Rattle.dm_tables.specs.Guesses.{AreGuessed};
 ghost use Rattle.dm_tables.specs.Tables.{defined, IsIndexed, IsTables};
 ghost use Rattle.dm_dict_text.specs.Making.{making};

@@ -1,6 +1,6 @@
 //! The items of a dictionary text, defined one after the other (RFC 6733, 3.2).
-ghost use Rattle.std.specs.Prelude.{◌≡◌, ◌⊎◌, ℕ, [], ◌∷◌, ◌++◌, map, nat_eq};
-ghost use Rattle.std.specs.Prelude.{true, false, Option, Some, None, OnOk, IfErr};
+ghost use Rattle.std.specs.Prelude.{◌≡◌, ℕ, [], map, nat_eq};
+ghost use Rattle.std.specs.Prelude.{true, false, Option, Some, OnOk, IfErr};
 ghost use Rattle.std.specs.List.{list_all, list_any};
 ghost use Rattle.std.specs.Cmp.Lexicographic.{pointwise};
 ghost use Rattle.dm_grammar.specs.Views.{view_vendor, view_avp, view_group, view_command, view_item};
@@ -21,7 +21,7 @@ use crate::DictFault;
 use crate::checks::{check_code, check_head, check_name, check_title, check_vendor};
 use crate::entries::rule;
 use crate::kind::type_named;
-use crate::list::list;
+use crate::list::value_list;
 use dm_grammar::{AvpItem, CommandItem, GroupItem, Item, VendorItem};
 use dm_tables::{AvpDef, CommandDef, NameGuesses, Rule, Tables, Values, VendorDef};
 use dm_value::AvpType;
@@ -105,7 +105,7 @@ fn define_avp<'a>(
     check_name(tables, guesses, strays, item.name)?;
     let (code, vendor) = check_code(tables, item.code, item.vendor)?;
     let name = Octets::from_slice(alloc, item.name.text)?;
-    let values = list(alloc, item.values.as_slice())?;
+    let values = value_list(alloc, item.values.as_slice())?;
     let avp = AvpDef {
         name,
         code,

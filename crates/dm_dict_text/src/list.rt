@@ -174,7 +174,7 @@ fn values_of(alloc: Global, items: &[ValueItem<'_>]) -> Result<Vec<EnumValue>, D
 }
 
 /// The list of the items.
-pub fn list(alloc: Global, items: &[ValueItem<'_>]) -> Result<Values, DictFault>
+pub fn value_list(alloc: Global, items: &[ValueItem<'_>]) -> Result<Values, DictFault>
     ensures value { IfOk result (λ list. list ≡ fold with_value [] (map view_value items.now)) }
     ensures good { IfOk result (λ _. value_list_faults (map view_value items.now) ≡ []) }
     ensures fault { IfErr result (StopsAtFirst (value_list_faults (map view_value items.now))) }

@@ -1,5 +1,5 @@
 //! The text of definitions (RFC 6733, 3.2).
-ghost use Rattle.std.specs.Prelude.{◌≡◌, ◌++◌, ◌∷◌, [], OnOk};
+ghost use Rattle.std.specs.Prelude.{◌≡◌, ◌++◌, OnOk};
 ghost use Rattle.std.specs.List.{flat_map, list_all};
 ghost use Rattle.dm_dict_text.specs.Printed.{type_name, spaced, spaced_number, spaced_option, decimal_option};
 ghost use Rattle.dm_dict_text.specs.Printed.{opening_bracket, closing_bracket, entry_text, rule_text};
@@ -46,31 +46,31 @@ fn brackets(form: Form) -> (&'static [u8], &'static [u8])
     }
 }
 
-fn put(text: &mut Vec<u8>, piece: &[u8]) -> Result<(), NoMemory>
+fn push_piece(text: &mut Vec<u8>, piece: &[u8]) -> Result<(), NoMemory>
     ensures { OnOk result (text.new.items ≡ text.old.items ++ piece.now) }
 {
     text.extend_from_slice(piece)?;
     Ok(())
 }
 
-fn put_number(text: &mut Vec<u8>, number: u32) -> Result<(), NoMemory>
+fn push_number(text: &mut Vec<u8>, number: u32) -> Result<(), NoMemory>
     ensures { OnOk result (text.new.items ≡ text.old.items ++ spaced_number number) }
 {
-    put(text, b" ")?;
+    push_piece(text, b" ")?;
     push_decimal(text, number as u64)?;
     Ok(())
 }
 
-fn put_option(text: &mut Vec<u8>, number: Option<u32>) -> Result<(), NoMemory>
+fn push_option(text: &mut Vec<u8>, number: Option<u32>) -> Result<(), NoMemory>
     ensures { OnOk result (text.new.items ≡ text.old.items ++ spaced_option number) }
 {
     match number {
-        Some(number) => put_number(text, number),
+        Some(number) => push_number(text, number),
         None => Ok(()),
     }
 }
 
-fn put_bound(text: &mut Vec<u8>, number: Option<u32>) -> Result<(), NoMemory>
+fn push_bound(text: &mut Vec<u8>, number: Option<u32>) -> Result<(), NoMemory>
     ensures { OnOk result (text.new.items ≡ text.old.items ++ decimal_option number) }
 {
     if let Some(number) = number {
@@ -79,194 +79,194 @@ fn put_bound(text: &mut Vec<u8>, number: Option<u32>) -> Result<(), NoMemory>
     Ok(())
 }
 
-fn put_flag(text: &mut Vec<u8>, flag: bool, word: &[u8]) -> Result<(), NoMemory>
+fn push_flag(text: &mut Vec<u8>, flag: bool, word: &[u8]) -> Result<(), NoMemory>
     ensures { OnOk result (text.new.items ≡ text.old.items ++ flag_text flag word.now) }
 {
-    if flag { put(text, word) } else { Ok(()) }
+    if flag { push_piece(text, word) } else { Ok(()) }
 }
 
-fn put_entry(text: &mut Vec<u8>, entry: &Entry) -> Result<(), NoMemory>
+fn push_entry(text: &mut Vec<u8>, entry: &Entry) -> Result<(), NoMemory>
     ensures { OnOk result (text.new.items ≡ text.old.items ++ entry_text entry.now) }
 {
     let (open, close) = brackets(entry.form);
-    put_number(text, entry.min)?;
-    put(text, b"*")?;
-    put_bound(text, entry.max)?;
-    put(text, open)?;
-    put(text, entry.name.as_slice())?;
-    put(text, close)
+    push_number(text, entry.min)?;
+    push_piece(text, b"*")?;
+    push_bound(text, entry.max)?;
+    push_piece(text, open)?;
+    push_piece(text, entry.name.as_slice())?;
+    push_piece(text, close)
 }
 
-fn put_entries(text: &mut Vec<u8>, entries: &[Entry]) -> Result<(), NoMemory>
+fn push_entries(text: &mut Vec<u8>, entries: &[Entry]) -> Result<(), NoMemory>
     ensures { OnOk result (text.new.items ≡ text.old.items ++ rule_text entries.now) }
 {
     for entry in entries {
-        put_entry(text, entry)?;
+        push_entry(text, entry)?;
     }
     Ok(())
 }
 
 /// What stands behind the numbers of a head: its end, the rule and the end of the line.
-fn put_rule(text: &mut Vec<u8>, rule: &Rule) -> Result<(), NoMemory>
+fn push_rule(text: &mut Vec<u8>, rule: &Rule) -> Result<(), NoMemory>
     ensures { OnOk result (text.new.items ≡ text.old.items ++ rule_end rule.now) }
 {
-    put(text, b" >")?;
-    put_entries(text, rule.as_slice())?;
-    put(text, b"\n")
+    push_piece(text, b" >")?;
+    push_entries(text, rule.as_slice())?;
+    push_piece(text, b"\n")
 }
 
-fn put_kind(text: &mut Vec<u8>, kind: AvpType) -> Result<(), NoMemory>
+fn push_kind(text: &mut Vec<u8>, kind: AvpType) -> Result<(), NoMemory>
     ensures { OnOk result (text.new.items ≡ text.old.items ++ spaced (type_name kind)) }
 {
-    put(text, b" ")?;
-    put(text, type_word(kind))
+    push_piece(text, b" ")?;
+    push_piece(text, type_word(kind))
 }
 
-fn put_value(text: &mut Vec<u8>, value: &EnumValue) -> Result<(), NoMemory>
+fn push_value(text: &mut Vec<u8>, value: &EnumValue) -> Result<(), NoMemory>
     ensures { OnOk result (text.new.items ≡ text.old.items ++ listed_value_text value.now) }
 {
-    put(text, b" ")?;
-    put(text, value.name.as_slice())?;
-    put_number(text, value.number.unsigned_abs())
+    push_piece(text, b" ")?;
+    push_piece(text, value.name.as_slice())?;
+    push_number(text, value.number.unsigned_abs())
 }
 
-fn put_next_value(text: &mut Vec<u8>, value: &EnumValue) -> Result<(), NoMemory>
+fn push_next_value(text: &mut Vec<u8>, value: &EnumValue) -> Result<(), NoMemory>
     ensures { OnOk result (text.new.items ≡ text.old.items ++ next_value value.now) }
 {
-    put(text, b",")?;
-    put_value(text, value)
+    push_piece(text, b",")?;
+    push_value(text, value)
 }
 
-fn put_more_values(text: &mut Vec<u8>, values: &[EnumValue]) -> Result<(), NoMemory>
+fn push_more_values(text: &mut Vec<u8>, values: &[EnumValue]) -> Result<(), NoMemory>
     ensures { OnOk result (text.new.items ≡ text.old.items ++ flat_map next_value values.now) }
 {
     for value in values {
-        put_next_value(text, value)?;
+        push_next_value(text, value)?;
     }
     Ok(())
 }
 
 /// A list of values, where there is one.
-fn put_list(text: &mut Vec<u8>, values: &[EnumValue]) -> Result<(), NoMemory>
+fn push_list(text: &mut Vec<u8>, values: &[EnumValue]) -> Result<(), NoMemory>
     ensures { OnOk result (text.new.items ≡ text.old.items ++ value_list_text values.now) }
 {
     match values {
         [] => Ok(()),
         [first, more @ ..] => {
-            put(text, b" {")?;
-            put_value(text, first)?;
-            put_more_values(text, more)?;
-            put(text, b" }")
+            push_piece(text, b" {")?;
+            push_value(text, first)?;
+            push_more_values(text, more)?;
+            push_piece(text, b" }")
         }
     }
 }
 
 /// What stands behind the code of an AVP that isn't Grouped.
-fn put_plain_end(text: &mut Vec<u8>, avp: &AvpDef) -> Result<(), NoMemory>
+fn push_plain_end(text: &mut Vec<u8>, avp: &AvpDef) -> Result<(), NoMemory>
     ensures { OnOk result (text.new.items ≡ text.old.items ++ plain_end avp.now) }
 {
-    put_kind(text, avp.kind)?;
-    put_option(text, avp.vendor)?;
-    put_list(text, avp.values.as_slice())?;
-    put(text, b"\n")
+    push_kind(text, avp.kind)?;
+    push_option(text, avp.vendor)?;
+    push_list(text, avp.values.as_slice())?;
+    push_piece(text, b"\n")
 }
 
-fn put_plain(text: &mut Vec<u8>, avp: &AvpDef) -> Result<(), NoMemory>
+fn push_plain(text: &mut Vec<u8>, avp: &AvpDef) -> Result<(), NoMemory>
     ensures { OnOk result (text.new.items ≡ text.old.items ++ plain_line avp.now) }
 {
-    put(text, b"@ ")?;
-    put(text, avp.name.as_slice())?;
-    put_number(text, avp.code)?;
-    put_plain_end(text, avp)
+    push_piece(text, b"@ ")?;
+    push_piece(text, avp.name.as_slice())?;
+    push_number(text, avp.code)?;
+    push_plain_end(text, avp)
 }
 
-fn put_group_head(text: &mut Vec<u8>, avp: &AvpDef) -> Result<(), NoMemory>
+fn push_group_head(text: &mut Vec<u8>, avp: &AvpDef) -> Result<(), NoMemory>
     ensures { OnOk result (text.new.items ≡ text.old.items ++ group_head_text avp.now) }
 {
-    put(text, b" > ::= < AVP Header:")?;
-    put_number(text, avp.code)?;
-    put_option(text, avp.vendor)
+    push_piece(text, b" > ::= < AVP Header:")?;
+    push_number(text, avp.code)?;
+    push_option(text, avp.vendor)
 }
 
-fn put_group(text: &mut Vec<u8>, avp: &AvpDef) -> Result<(), NoMemory>
+fn push_group(text: &mut Vec<u8>, avp: &AvpDef) -> Result<(), NoMemory>
     ensures { OnOk result (text.new.items ≡ text.old.items ++ group_line avp.now) }
 {
-    put(text, b"< ")?;
-    put(text, avp.name.as_slice())?;
-    put_group_head(text, avp)?;
-    put_rule(text, &avp.rule)
+    push_piece(text, b"< ")?;
+    push_piece(text, avp.name.as_slice())?;
+    push_group_head(text, avp)?;
+    push_rule(text, &avp.rule)
 }
 
-fn put_avp(text: &mut Vec<u8>, avp: &AvpDef) -> Result<(), NoMemory>
+fn push_avp(text: &mut Vec<u8>, avp: &AvpDef) -> Result<(), NoMemory>
     ensures { OnOk result (text.new.items ≡ text.old.items ++ avp_line avp.now) }
 {
     match avp.kind {
-        AvpType::Grouped => put_group(text, avp),
-        _ => put_plain(text, avp),
+        AvpType::Grouped => push_group(text, avp),
+        _ => push_plain(text, avp),
     }
 }
 
-fn put_flags(text: &mut Vec<u8>, command: &CommandDef) -> Result<(), NoMemory>
+fn push_flags(text: &mut Vec<u8>, command: &CommandDef) -> Result<(), NoMemory>
     ensures { OnOk result (text.new.items ≡ text.old.items ++ flags_text command.now) }
 {
-    put_flag(text, command.request, b", REQ")?;
-    put_flag(text, command.proxiable, b", PXY")?;
-    put_flag(text, command.err, b", ERR")
+    push_flag(text, command.request, b", REQ")?;
+    push_flag(text, command.proxiable, b", PXY")?;
+    push_flag(text, command.err, b", ERR")
 }
 
-fn put_command_head(text: &mut Vec<u8>, command: &CommandDef) -> Result<(), NoMemory>
+fn push_command_head(text: &mut Vec<u8>, command: &CommandDef) -> Result<(), NoMemory>
     ensures { OnOk result (text.new.items ≡ text.old.items ++ command_head_text command.now) }
 {
-    put(text, b" > ::= < Diameter Header:")?;
-    put_number(text, command.code)?;
-    put_flags(text, command)?;
-    put_number(text, command.application)
+    push_piece(text, b" > ::= < Diameter Header:")?;
+    push_number(text, command.code)?;
+    push_flags(text, command)?;
+    push_number(text, command.application)
 }
 
-fn put_command(text: &mut Vec<u8>, command: &CommandDef) -> Result<(), NoMemory>
+fn push_command(text: &mut Vec<u8>, command: &CommandDef) -> Result<(), NoMemory>
     ensures { OnOk result (text.new.items ≡ text.old.items ++ command_line command.now) }
 {
-    put(text, b"< ")?;
-    put(text, command.name.as_slice())?;
-    put_command_head(text, command)?;
-    put_rule(text, &command.rule)
+    push_piece(text, b"< ")?;
+    push_piece(text, command.name.as_slice())?;
+    push_command_head(text, command)?;
+    push_rule(text, &command.rule)
 }
 
 /// Puts the line of each AVP behind the text.
-fn put_avps(text: &mut Vec<u8>, avps: &[AvpDef]) -> Result<(), NoMemory>
+fn push_avps(text: &mut Vec<u8>, avps: &[AvpDef]) -> Result<(), NoMemory>
     ensures { OnOk result (text.new.items ≡ text.old.items ++ flat_map avp_line avps.now) }
 {
     for avp in avps {
-        put_avp(text, avp)?;
+        push_avp(text, avp)?;
     }
     Ok(())
 }
 
 /// Puts the line of each command behind the text.
-fn put_commands(text: &mut Vec<u8>, commands: &[CommandDef]) -> Result<(), NoMemory>
+fn push_commands(text: &mut Vec<u8>, commands: &[CommandDef]) -> Result<(), NoMemory>
     ensures { OnOk result (text.new.items ≡ text.old.items ++ flat_map command_line commands.now) }
 {
     for command in commands {
-        put_command(text, command)?;
+        push_command(text, command)?;
     }
     Ok(())
 }
 
-fn put_vendor(text: &mut Vec<u8>, vendor: &VendorDef) -> Result<(), NoMemory>
+fn push_vendor(text: &mut Vec<u8>, vendor: &VendorDef) -> Result<(), NoMemory>
     ensures { OnOk result (text.new.items ≡ text.old.items ++ vendor_line vendor.now) }
 {
-    put(text, b"@ vendor ")?;
-    put(text, vendor.name.as_slice())?;
-    put_number(text, vendor.number)?;
-    put(text, b"\n")
+    push_piece(text, b"@ vendor ")?;
+    push_piece(text, vendor.name.as_slice())?;
+    push_number(text, vendor.number)?;
+    push_piece(text, b"\n")
 }
 
 /// Puts the line of each vendor behind the text.
-fn put_vendors(text: &mut Vec<u8>, vendors: &[VendorDef]) -> Result<(), NoMemory>
+fn push_vendors(text: &mut Vec<u8>, vendors: &[VendorDef]) -> Result<(), NoMemory>
     ensures { OnOk result (text.new.items ≡ text.old.items ++ flat_map vendor_line vendors.now) }
 {
     for vendor in vendors {
-        put_vendor(text, vendor)?;
+        push_vendor(text, vendor)?;
     }
     Ok(())
 }
@@ -294,22 +294,22 @@ fn is_first_version(tables: &Tables) -> bool
 }
 
 /// Puts the line of the version, where a text of version 1 doesn't say it all.
-fn put_version(text: &mut Vec<u8>, tables: &Tables) -> Result<(), NoMemory>
+fn push_version(text: &mut Vec<u8>, tables: &Tables) -> Result<(), NoMemory>
     ensures { OnOk result (text.new.items ≡ text.old.items ++ version_line (defined tables.now)) }
 {
     if is_first_version(tables) {
         Ok(())
     } else {
-        put(text, b"@ 2\n")
+        push_piece(text, b"@ 2\n")
     }
 }
 
 /// Puts the text of all definitions behind the text.
-pub fn put_tables(text: &mut Vec<u8>, tables: &Tables) -> Result<(), NoMemory>
+pub fn push_tables(text: &mut Vec<u8>, tables: &Tables) -> Result<(), NoMemory>
     ensures { OnOk result (text.new.items ≡ text.old.items ++ printed (defined tables.now)) }
 {
-    put_version(text, tables)?;
-    put_vendors(text, tables.vendors.items.as_slice())?;
-    put_avps(text, tables.avps.as_slice())?;
-    put_commands(text, tables.commands.as_slice())
+    push_version(text, tables)?;
+    push_vendors(text, tables.vendors.items.as_slice())?;
+    push_avps(text, tables.avps.as_slice())?;
+    push_commands(text, tables.commands.as_slice())
 }

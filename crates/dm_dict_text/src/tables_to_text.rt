@@ -5,7 +5,7 @@ ghost use Rattle.dm_tables.specs.Tables.{defined, IsDictionary};
 ghost use Rattle.dm_dict_text.specs.Printed.{printed};
 ghost use Rattle.dm_dict_text.specs.Outcome.{Defines};
 
-use crate::print::put_tables;
+use crate::print::push_tables;
 use dm_grammar::words_law;
 use dm_tables::Tables;
 use dm_value::NoMemory;
@@ -21,6 +21,6 @@ pub fn print_tables(alloc: Global, tables: &Tables) -> Result<Vec<u8>, NoMemory>
 {
     let mut text = Vec::new(alloc);
     words_law();
-    put_tables(&mut text, tables)?;
+    push_tables(&mut text, tables)?;
     Ok(text)
 }

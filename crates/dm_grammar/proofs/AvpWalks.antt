@@ -13,7 +13,7 @@ use Rattle.dm_grammar.specs.Grammar.{GrammarStep, on, fits, steps_from, colon_st
 use Rattle.dm_grammar.specs.Items.{VendorParts, VendorReference, ValueParts, AvpParts, Written}
 use Rattle.dm_grammar.specs.Items.VendorReference.{NumberedBy, NamedBy}
 use Rattle.dm_grammar.specs.Items.Written.{VendorIs, AvpIs}
-use Rattle.dm_grammar.specs.Readers.{VendorPlace, begins_vendor, behind_kind, may_list, told_by}
+use Rattle.dm_grammar.specs.Readers.{VendorPlace, begins_vendor, behind_kind, may_list, reference_told}
 use Rattle.dm_grammar.specs.Told.{Gathered, none_gathered, fill, filled}
 use Rattle.dm_grammar.specs.Spelling.{Phrase, Spells, name_is, number_is, reference_is, reference_may, value_is, more_values, list, kind_and_values, type_is, vendor, item}
 use Rattle.dm_grammar.specs.Spelling.Phrase.{Empty, This, ◌then◌}
@@ -34,7 +34,7 @@ colon_walk Second last p colon q w f =
     also this how colon q AnyName NamedIs w (λ w g. rw f.named (inl (g, refl)))
 
 vend_walk : (how : Reading) (p colon q : GrammarPlace) (d : Option VendorReference) → VendorPlace how.version p colon q
-    → Walk how p (reference_may how.version d) q (told_by d)
+    → Walk how p (reference_may how.version d) q (reference_told d)
 vend_walk how p colon q None f =
     let extra = on symbols.Number q SecondIs ++ colon_steps how.version colon in
     widen how p q q Empty (λ (t : Gathered). t) extra (stay how q) (f.here ∙ joined (colon_steps how.version colon))
@@ -49,24 +49,24 @@ vend_walk how p colon q (Some (NamedBy w)) f = colon_walk how.version how.last p
 
 -- behind any type, where no list is written
 kind_end_walk : (how : Reading) (b : Bool) (d : Option VendorReference)
-    → Walk how (behind_kind b) (reference_may how.version d) Text (told_by d)
+    → Walk how (behind_kind b) (reference_may how.version d) Text (reference_told d)
 kind_end_walk how false d = vend_walk how Typed TypedColon Text d (typed_place how.version)
 kind_end_walk how true d =
-    narrow how Listed Vendored Text (reference_may how.version d) (told_by d) (on symbols.OpenBrace ListOpen NoPart)
+    narrow how Listed Vendored Text (reference_may how.version d) (reference_told d) (on symbols.OpenBrace ListOpen NoPart)
     (vend_walk how Listed ListedColon Vendored d (listed_place how.version)) refl (λ e. refl)
 
 kind_go : (how : Reading) (k : Word) (d : Option VendorReference) (Behind : List Word → Type 0) (t : Gathered)
     → ((ws : List Word) → Behind ws → Tells how Text t ws) → (ws : List Word)
-    → Spells (name_is k then reference_may how.version d) Behind ws → Tells how AvpCode (fill KindIs k (told_by d t)) ws
+    → Spells (name_is k then reference_may how.version d) Behind ws → Tells how AvpCode (fill KindIs k (reference_told d t)) ws
 kind_go how k d Behind t go [] h = absurd h
 kind_go how k d Behind t go (w ∷ ws) h =
     let b = may_list how.version w in
     let rest = (kind_end_walk how b d).go Behind t go ws h.1.1 in
     kind_taken how w (w ∷ ws) ws b refl refl h.0 ∙ (ap (filled KindIs w) rest
-    ∙ ap (λ (w : Word). Ok (fill KindIs w (told_by d t))) h.1.0)
+    ∙ ap (λ (w : Word). Ok (fill KindIs w (reference_told d t))) h.1.0)
 
 kind_walk : (how : Reading) (k : Word) (d : Option VendorReference)
-    → Walk how AvpCode (name_is k then reference_may how.version d) Text (λ (t : Gathered). fill KindIs k (told_by d t))
+    → Walk how AvpCode (name_is k then reference_may how.version d) Text (λ (t : Gathered). fill KindIs k (reference_told d t))
 kind_walk how k d = record { go = kind_go how k d }
 
 -- value *("," value)
@@ -99,7 +99,7 @@ list_walk how x xs =
 listed_walk : (last : ℕ) (k : Word) (d : Option VendorReference) (x : ValueParts) (xs : List ValueParts)
     → let how : Reading = record { version = Second; last = last } in
     Walk how AvpCode (This (One symbols.Enumerated) k then reference_may Second d then list x xs) Text
-    (λ (t : Gathered). fill KindIs k (told_by d (list_told x xs t)))
+    (λ (t : Gathered). fill KindIs k (reference_told d (list_told x xs t)))
 listed_walk last k d x xs =
     let how : Reading = record { version = Second; last = last } in
     this how AvpCode Listed (One symbols.Enumerated) KindIs k (λ w f. inl (f, refl))
@@ -112,7 +112,7 @@ values_told [] t = t
 values_told (x ∷ xs) t = list_told x xs t
 
 abbrev type_told : Word → Option VendorReference → List ValueParts → Gathered → Gathered
-type_told k d xs t = fill KindIs k (told_by d (values_told xs t))
+type_told k d xs t = fill KindIs k (reference_told d (values_told xs t))
 
 type_walk : (v : Version) (last : ℕ) (k : Word) (d : Option VendorReference) (xs : List ValueParts)
     → let how : Reading = record { version = v; last = last } in
@@ -185,7 +185,7 @@ abbrev avp_of : Word → Word → Word → Option VendorReference → List Value
 avp_of n c k d xs = record { name = n; code = c; kind = k; vendor = d; values = xs }
 
 abbrev around : Word → Word → Word → Option VendorReference → Gathered → Gathered
-around n c k d t = fill BeginsItem blank (fill NameOfAvp n (fill CodeIs c (fill KindIs k (told_by d t))))
+around n c k d t = fill BeginsItem blank (fill NameOfAvp n (fill CodeIs c (fill KindIs k (reference_told d t))))
 
 around_made : (n c k : Word) (d : Option VendorReference) (xs : List ValueParts) (is : List Written)
     → around n c k d (record none_gathered { items = is; values = xs }) ≡ before_items (AvpIs (avp_of n c k d xs) ∷ is)

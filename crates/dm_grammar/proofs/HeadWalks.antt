@@ -1,5 +1,5 @@
 -- What tokens tell that are written by a title and a head.
-use Rattle.std.proofs.Common.{◌≡◌, ℕ, List, ◌∷◌, ◌++◌, Option, Some, None, refl, Bool, true, false, ap, ◌∙◌, inl, inr, if◌then◌else◌}
+use Rattle.std.proofs.Common.{◌≡◌, ℕ, List, ◌∷◌, ◌++◌, Option, Some, None, refl, Bool, true, false, ap, ◌∙◌, inl, inr}
 use Rattle.dm_grammar.specs.declared.reading.Reading.{Reading}
 use Rattle.dm_grammar.specs.declared.reading.Version.{Version}
 use Rattle.dm_grammar.specs.declared.reading.Version.TheVariants.{First, Second}
@@ -14,7 +14,7 @@ use Rattle.dm_grammar.specs.Grammar.{GrammarStep, on, colon_steps}
 use Rattle.dm_grammar.specs.Items.{VendorReference, EntryParts, GroupParts, CommandParts, Written}
 use Rattle.dm_grammar.specs.Items.VendorReference.{NumberedBy, NamedBy}
 use Rattle.dm_grammar.specs.Items.Written.{GroupIs, CommandIs}
-use Rattle.dm_grammar.specs.Readers.{told_by}
+use Rattle.dm_grammar.specs.Readers.{reference_told}
 use Rattle.dm_grammar.specs.Told.{Gathered, none_gathered, fill}
 use Rattle.dm_grammar.specs.Spelling.{Phrase, name_is, number_is, reference_is, title, flag, second, group_vendor, command_head, group_head}
 use Rattle.dm_grammar.specs.Spelling.Phrase.{Empty, Literal, ◌then◌, ◌or◌}
@@ -125,7 +125,7 @@ group_named_walk Second last w =
     also this how GroupNamed HeadEnd AnyName NamedIs w (λ w f. inl (f, refl))
 
 group_vendor_walk : (how : Reading) (d : Option VendorReference)
-    → Walk how GroupCoded (group_vendor how.version d) HeadEnd (told_by d)
+    → Walk how GroupCoded (group_vendor how.version d) HeadEnd (reference_told d)
 group_vendor_walk how None =
     widen how GroupCoded Flagged HeadEnd Empty (λ (t : Gathered). t) (colon_steps how.version GroupNamed)
     (second_walk how None) refl (λ e. e)
@@ -135,7 +135,7 @@ group_vendor_walk how (Some (NumberedBy w)) =
 group_vendor_walk how (Some (NamedBy w)) = group_named_walk how.version how.last w
 
 abbrev pub group_head_told : GroupParts → Gathered → Gathered
-group_head_told g t = fill GroupHead blank (fill NoPart blank (fill CodeIs g.code (told_by g.vendor t)))
+group_head_told g t = fill GroupHead blank (fill NoPart blank (fill CodeIs g.code (reference_told g.vendor t)))
 
 pub group_head_walk : (how : Reading) (g : GroupParts)
     → Walk how Head (group_head how.version g) HeadEnd (group_head_told g)

@@ -2,7 +2,7 @@
 use Rattle.std.proofs.Common.{◌≡◌, ℕ, List, [], ◌∷◌, Result, Ok, Err, IfOk, refl}
 use Rattle.dm_grammar.specs.declared.reading.Reading.{Reading}
 use Rattle.dm_grammar.specs.declared.symbol.Symbol.{Symbol}
-use Rattle.dm_grammar.specs.declared.symbol.Symbol.TheVariants.{Less, Greater, OpenBrace, CloseBrace, OpenSquare, CloseSquare, Star, Comma, Colon, At, Define, Number, Name, Diameter, Header, DiameterHeader, Avp, AvpHeader, Req, Pxy, Vendor, Enumerated, Stray}
+use Rattle.dm_grammar.specs.declared.symbol.Symbol.TheVariants.{Less, At, Name, Diameter, Header, DiameterHeader, Avp, AvpHeader, Req, Pxy, Vendor, Enumerated}
 use Rattle.dm_grammar.specs.declared.symbol.Symbol.TheVariants as symbols
 use Rattle.dm_grammar.specs.Tokens.{Word}
 use Rattle.dm_grammar.specs.Places.GrammarPlace.{Text, TitleLess, AtSign, Titled}

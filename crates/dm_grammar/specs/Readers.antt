@@ -105,13 +105,13 @@ pub record VendorPlace (v : Version) (p colon q : GrammarPlace) : Type 0 where
   pub no_end : may_end colon ≡ false
 
 -- the vendor in what is told
-abbrev pub told_by : Option VendorReference → Gathered → Gathered
-told_by None told = told
-told_by (Some (NumberedBy w)) told = record told { second = Some w }
-told_by (Some (NamedBy w)) told = record told { named = Some w }
+abbrev pub reference_told : Option VendorReference → Gathered → Gathered
+reference_told None told = told
+reference_told (Some (NumberedBy w)) told = record told { second = Some w }
+reference_told (Some (NamedBy w)) told = record told { named = Some w }
 
 abbrev pub adding_reference : Option VendorReference → Result Gathered ℕ → Result Gathered ℕ
-adding_reference v (Ok told) = Ok (told_by v told)
+adding_reference v (Ok told) = Ok (reference_told v told)
 adding_reference v (Err line) = Err line
 
 abbrev pub adding_value : ValueParts → Result Gathered ℕ → Result Gathered ℕ

@@ -8,7 +8,7 @@ ghost use Rattle.dm_grammar.specs.Views.{view_entry, view_option, view_words};
 
 use crate::item::{EntryItem, Form, Qualifier};
 use crate::reading::Reading;
-use crate::step::{begins, begins_title, expect, expect_two, optional};
+use crate::step::{begins, begins_title, expect, optional, two_wanted_tokens};
 use crate::symbol::Symbol;
 use crate::terminal::Terminal;
 use crate::token::Token;
@@ -55,7 +55,7 @@ fn bracketed<'t, 'a>(
         return Err(open.line);
     };
     let close = Terminal::One(close_of(form));
-    let (words, rest) = expect_two(rest, how, Terminal::AnyName, close)?;
+    let (words, rest) = two_wanted_tokens(rest, how, Terminal::AnyName, close)?;
     let entry = EntryItem {
         form,
         name: words.0,

@@ -9,7 +9,7 @@ ghost use Rattle.dm_grammar.specs.Tokens.{Word};
 ghost use Rattle.dm_grammar.specs.Views.{view_head, view_option, view_words};
 
 use crate::reading::Reading;
-use crate::step::{expect, expect_two, optional, stands_at};
+use crate::step::{expect, optional, stands_at, two_wanted_tokens};
 use crate::symbol::Symbol;
 use crate::terminal::Terminal;
 use crate::token::Token;
@@ -58,7 +58,7 @@ fn head_end<'t, 'a>(
     let (comma, rest) = optional(tokens, Terminal::One(Symbol::Comma));
     match comma {
         Some(_) => {
-            let (words, rest) = expect_two(
+            let (words, rest) = two_wanted_tokens(
                 rest,
                 how,
                 Terminal::One(Symbol::Number),
@@ -85,7 +85,7 @@ pub(crate) fn command_head<'t, 'a>(
         (λ line. collect how CommandColon (view_words tokens.now) ≡ Err line) }
     ensures shorter { IfOk result (λ x. length x.1.now < length tokens.now) }
 {
-    let (words, rest) = expect_two(
+    let (words, rest) = two_wanted_tokens(
         tokens,
         how,
         Terminal::One(Symbol::Colon),
@@ -120,7 +120,7 @@ fn group_end<'t, 'a>(
 {
     let (named, rest) = colon(tokens, how);
     if named {
-        let (words, rest) = expect_two(
+        let (words, rest) = two_wanted_tokens(
             rest,
             how,
             Terminal::AnyName,
@@ -144,7 +144,7 @@ pub(crate) fn group_head<'t, 'a>(
         (λ line. collect how GroupColon (view_words tokens.now) ≡ Err line) }
     ensures shorter { IfOk result (λ x. length x.1.now < length tokens.now) }
 {
-    let (words, rest) = expect_two(
+    let (words, rest) = two_wanted_tokens(
         tokens,
         how,
         Terminal::One(Symbol::Colon),

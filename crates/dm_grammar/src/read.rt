@@ -27,7 +27,7 @@ use crate::terminal::Terminal;
 use crate::title::opening;
 use crate::token::Token;
 use crate::vendor::{begins_vendor, vendor_item, vendor_told};
-use crate::version::version;
+use crate::version::version_and_body;
 use std::alloc::Global;
 
 /// The command or the group of a title, a head and a rule.
@@ -184,7 +184,7 @@ fn text_items(alloc: Global, text: &[u8]) -> Result<Vec<Item<'_>>, ItemFault>
 {
     let last = last_line(text);
     let all = tokens(alloc, text).map_err(|_| ItemFault::NoMemory)?;
-    let (version, body) = version(all.as_slice());
+    let (version, body) = version_and_body(all.as_slice());
     let found = items(alloc, body, Reading { version, last });
     drop(all);
     found

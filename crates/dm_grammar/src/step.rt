@@ -1,6 +1,6 @@
 //! One token of the rest of a text.
 
-ghost use Rattle.std.specs.Prelude.{◌≡◌, ◌<◌, ◌≤◌, ◌∷◌, [], false, true, drop};
+ghost use Rattle.std.specs.Prelude.{◌≡◌, ◌<◌, ◌≤◌, ◌∷◌, false, true, drop};
 ghost use Rattle.std.specs.Prelude.{length, MatchResult, MatchOption, IfOk, Err};
 ghost use Rattle.dm_grammar.specs.Grammar.{by, fits, may_end, steps_from};
 ghost use Rattle.dm_grammar.specs.Places.{GrammarPlace, TokenRole};
@@ -53,7 +53,7 @@ pub(crate) fn expect<'t, 'a>(
 
 /// The first two tokens, where they are the terminals that a place with one step and the next place want,
 /// and the rest.
-pub(crate) fn expect_two<'t, 'a>(
+pub(crate) fn two_wanted_tokens<'t, 'a>(
     tokens: &'t [Token<'a>],
     how: Reading,
     first: Terminal,

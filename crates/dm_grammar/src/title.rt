@@ -12,7 +12,7 @@ ghost use Rattle.dm_grammar.specs.Views.{view_word, view_head, view_words};
 
 use crate::head::{Head, command_head, group_head};
 use crate::reading::Reading;
-use crate::step::{expect, expect_two, optional};
+use crate::step::{expect, optional, two_wanted_tokens};
 use crate::symbol::Symbol;
 use crate::terminal::Terminal;
 use crate::token::Token;
@@ -114,7 +114,7 @@ fn title<'t, 'a>(
     let (less, rest) = optional(tokens, Terminal::One(Symbol::Less));
     match less {
         Some(_) => {
-            let (words, rest) = expect_two(
+            let (words, rest) = two_wanted_tokens(
                 rest,
                 how,
                 Terminal::AnyName,
@@ -140,7 +140,7 @@ fn titled<'t, 'a>(
     ensures shorter { IfOk result (λ x. length x.1.now < length tokens.now) }
 {
     let (name, rest) = title(tokens, how)?;
-    let (_marks, rest) = expect_two(
+    let (_marks, rest) = two_wanted_tokens(
         rest,
         how,
         Terminal::One(Symbol::Define),

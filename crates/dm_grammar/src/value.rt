@@ -9,7 +9,7 @@ ghost use Rattle.dm_grammar.specs.Views.{view_value, view_words};
 use crate::fault::ItemFault;
 use crate::item::ValueItem;
 use crate::reading::Reading;
-use crate::step::{expect_two, same};
+use crate::step::{same, two_wanted_tokens};
 use crate::symbol::Symbol;
 use crate::terminal::{Terminal, fits};
 use crate::token::Token;
@@ -48,7 +48,7 @@ fn value<'t, 'a>(
         (λ line. collect how ListOpen (view_words tokens.now) ≡ Err line) }
     ensures shorter { IfOk result (λ x. length x.1.now < length tokens.now) }
 {
-    let (words, rest) = expect_two(
+    let (words, rest) = two_wanted_tokens(
         tokens,
         how,
         Terminal::AnyName,

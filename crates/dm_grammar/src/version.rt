@@ -27,7 +27,7 @@ fn is_second(tokens: &[Token<'_>]) -> bool
 }
 
 /// The version of a text, and the tokens behind those that tell it.
-pub(crate) fn version<'t, 'a>(tokens: &'t [Token<'a>]) -> (Version, &'t [Token<'a>])
+pub(crate) fn version_and_body<'t, 'a>(tokens: &'t [Token<'a>]) -> (Version, &'t [Token<'a>])
     ensures version { result.0 ≡ version_of (view_words tokens.now) }
     ensures body { view_words result.1.now ≡ body_of (view_words tokens.now) }
 {

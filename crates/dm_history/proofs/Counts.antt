@@ -6,7 +6,7 @@ use Rattle.dm_machine.specs.Node.{Node}
 use Rattle.dm_machine.specs.Forms.{EachShapeIsAForm}
 use Rattle.dm_machine.specs.Reading.{place_in, conn_named}
 use Rattle.dm_machine.specs.Moves as moves
-use Rattle.dm_machine.specs.Moves.{NodeOutcome, is_open, machine_outcome}
+use Rattle.dm_machine.specs.Moves.{NodeOutcome, is_open}
 use Rattle.dm_machine.specs.Connection.{hold_of, concern_of}
 use Rattle.dm_machine.specs.Upward.{is_open_hold}
 use Rattle.dm_machine.specs.EachStep.{StepTest, everywhere, passes_of, EachStepHolds}

@@ -1,5 +1,5 @@
 -- What goes by the state: which inputs are refused, and where it counts who would win an election.
-use Rattle.std.proofs.Common.{◌≡◌, Bool, true, false, ◌&&◌, IsTrue, Option, Some, None, refl, sym, ◌∙◌}
+use Rattle.std.proofs.Common.{◌≡◌, Bool, true, false, ◌&&◌, IsTrue, Option, Some, None, refl}
 use Rattle.dm_machine.specs.declared.connection.Conn.{Conn}
 use Rattle.dm_machine.specs.declared.outputs.Refusal.{Refusal}
 use Rattle.dm_machine.specs.declared.outputs.Refusal.TheVariants.{NotClosed, NotOpen}

@@ -23,7 +23,7 @@ use dm_two_peers::laws::{
     each_run_delivers, each_run_hands_up_what_came, each_world_can_open, quiet_is_joined,
     winner_does_not_return,
 };
-use dm_wire::laws::{canonical_spells, message_in_spells, spelled_is_framed, spelled_is_in};
+use dm_wire::laws::{canonical_spells, message_in_spells, spelled_is_found, spelled_is_framed};
 use dm_wire::{Header, Octets};
 
 /// Peers over octets move as the state machine.
@@ -156,7 +156,7 @@ pub fn octet_answers_match()
     each_order_is_a_command();
     each_step_is_one_of_few();
     each_step_keeps_shape();
-    spelled_is_in();
+    spelled_is_found();
     unread_words_are_alike();
 }
 

@@ -1,5 +1,5 @@
 //! Configurations: a node and the peer that it is configured for.
-ghost use Rattle.std.specs.Prelude.{◌≡◌, ◌⊎◌, ◌↔◌, IfOk, IfErr, Some, None, Err, true, false};
+ghost use Rattle.std.specs.Prelude.{◌≡◌, ◌⊎◌, ◌↔◌, IfOk, IfErr, Some, Err, true, false};
 ghost use Rattle.dm_base.specs.Before.{lower};
 ghost use Rattle.dm_base.specs.Fit.{is_name};
 ghost use Rattle.dm_tables.specs.Base.{base_definitions};

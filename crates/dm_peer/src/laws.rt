@@ -28,7 +28,7 @@ use dm_machine::laws::{
     each_step_is_one_of_few, each_step_keeps_shape, strangers_are_turned_away,
     unread_words_are_alike,
 };
-use dm_wire::laws::{canonical_spells, message_in_spells, spelled_is_in};
+use dm_wire::laws::{canonical_spells, message_in_spells, spelled_is_found};
 
 /// What an event comes to, case by case: a step of the state machine, after what was heard; an answer that nothing
 /// awaits, which is dropped; or a Submit that is refused. The law stands for users, and the others rest on it.
@@ -124,7 +124,7 @@ pub fn what_is_sent_is_heard()
     ensures { SentIsHeard }
 {
     canonical_spells();
-    spelled_is_in();
+    spelled_is_found();
 }
 
 /// What comparing changes: a CEA that passes its check fails where its sender isn't the configured peer, and goes by

@@ -1,5 +1,5 @@
 //! Where a peer stands: its core, its next number, and what it waits for.
-ghost use Rattle.std.specs.Prelude.{◌≡◌, None};
+ghost use Rattle.std.specs.Prelude.{◌≡◌};
 ghost use Rattle.dm_peer.specs.After.{awaited_of, nothing_awaited, fresh_standing};
 
 use dm_base::BaseCommand;

@@ -5,7 +5,7 @@ ghost use Rattle.std.specs.Fmt.{WritesOnOk};
 ghost use Rattle.std.specs.Option.{option_map};
 ghost use Rattle.std.specs.String.{string_bytes};
 ghost use Rattle.hex.specs.Hex.{encode_lower};
-ghost use Rattle.dm_text.specs.Hexadecimal.{without_spaces, word_octets, line_octets};
+ghost use Rattle.dm_text.specs.Hexadecimal.{without_spaces, word_octets};
 ghost use Rattle.dm_text.specs.SideBySide.{bad_marks, AreRead, HasBadDigit, PutUpTo};
 ghost use Rattle.dm_text.specs.declared.hexadecimal.TheConstants.{OCTETS_AT_ONCE as octets_at_once};
 
@@ -143,24 +143,6 @@ fn larger(one: u8, other: u8) -> u8
     if one < other { other } else { one }
 }
 
-/// The octets that a line of hexadecimal digits in either case stands for. Spaces don't count.
-///
-/// None where a digit is bad or their number is odd. `digits` is room that is used again from line
-/// to line; what it holds doesn't matter.
-pub fn read_hex_line(
-    alloc: Global,
-    line: &[u8],
-    digits: &mut Vec<u8>,
-) -> Result<Option<Vec<u8>>, AllocError>
-    ensures { IfOk result (λ octets. option_map (λ v. v.items) octets ≡ line_octets line.now) }
-{
-    if has_no_space(line) {
-        return read_hex_word(alloc, line);
-    }
-    take_out_spaces(line, digits)?;
-    read_hex_word(alloc, digits.as_slice())
-}
-
 /// Whether no octet of the line is a space.
 pub(crate) fn has_no_space(line: &[u8]) -> bool
     ensures { result ≡ true → without_spaces line.now ≡ line.now }
@@ -209,7 +191,7 @@ fn write_digits<W: fmt::Write>(f: &mut fmt::Formatter<W>, octets: &[u8]) -> fmt:
 {
     let mut digits = [0; 2 * OCTETS_AT_ONCE];
     let room = &mut digits[..2 * octets.len()];
-    put_digits(octets, room);
+    fill_digits(octets, room);
     // Digits are ASCII.
     f.write_str(unsafe { str::from_utf8_unchecked(room) })
 }
@@ -223,7 +205,7 @@ pub fn push_hexadecimal(text: &mut Vec<u8>, octets: &[u8]) -> Result<(), AllocEr
         return Err(AllocError);
     };
     text.resize(end, 0)?;
-    put_digits(octets, &mut text.as_mut_slice()[start..]);
+    fill_digits(octets, &mut text.as_mut_slice()[start..]);
     Ok(())
 }
 
@@ -248,7 +230,7 @@ fn put_some(text: &mut String, octets: &[u8]) -> Result<(), AllocError>
 {
     let mut digits = [0; 2 * OCTETS_AT_ONCE];
     let room = &mut digits[..2 * octets.len()];
-    put_digits(octets, room);
+    fill_digits(octets, room);
     // Digits are ASCII.
     text.push_str(unsafe { str::from_utf8_unchecked(room) })
 }
@@ -262,17 +244,17 @@ fn digits_end(start: usize, octets: usize) -> Option<usize>
 }
 
 /// Puts two digits for each octet in the room.
-fn put_digits(octets: &[u8], room: &mut [u8])
+fn fill_digits(octets: &[u8], room: &mut [u8])
     requires { length room.old ≡ 2 * length octets.now }
     ensures { room.new ≡ encode_lower octets.now }
 {
     let runs = octets.len() / 16;
-    put_runs(octets, room, runs);
-    put_few(octets, room, 16 * runs);
+    fill_runs(octets, room, runs);
+    fill_few(octets, room, 16 * runs);
 }
 
 /// Puts the digits of so many runs of sixteen octets.
-fn put_runs(octets: &[u8], room: &mut [u8], runs: usize)
+fn fill_runs(octets: &[u8], room: &mut [u8], runs: usize)
     requires twice { length room.old ≡ 2 * length octets.now }
     requires within { 16 * runs ≤ length octets.now }
     ensures { PutUpTo octets.now room.new (16 * runs) }
@@ -286,7 +268,7 @@ fn put_runs(octets: &[u8], room: &mut [u8], runs: usize)
 }
 
 /// Puts the digits of the octets from here on.
-fn put_few(octets: &[u8], room: &mut [u8], from: usize)
+fn fill_few(octets: &[u8], room: &mut [u8], from: usize)
     requires twice { length room.old ≡ 2 * length octets.now }
     requires within { from ≤ length octets.now }
     requires put { PutUpTo octets.now room.old from }

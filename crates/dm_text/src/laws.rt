@@ -13,7 +13,7 @@ pub fn number_or_none()
     ensures { NumberOrNone }
 {}
 
-/// The decimal text of a number tells it. The law stands for users.
+/// The decimal text of a number of 64 bits tells that number. The law stands for users.
 pub fn number_read_back()
     ensures { NumberReadBack }
 {}

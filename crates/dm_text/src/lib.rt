@@ -13,9 +13,7 @@ mod refusal;
 mod word;
 
 pub use crate::decimal::{push_decimal, put_decimal};
-pub use crate::hexadecimal::{
-    Hexadecimal, push_hexadecimal, put_hexadecimal, read_hex_line, read_hex_word,
-};
+pub use crate::hexadecimal::{Hexadecimal, push_hexadecimal, put_hexadecimal, read_hex_word};
 pub use crate::line::{Lines, is_skipped, line_feed, trim};
 pub use crate::line_room::LineRoom;
 pub use crate::number::{read_long_number, read_number};

@@ -1,5 +1,5 @@
 //! The numbers that words tell.
-ghost use Rattle.std.specs.Prelude.{◌≡◌, ◌≤◌, ℕ, IfSome, IfNone};
+ghost use Rattle.std.specs.Prelude.{◌≤◌, ℕ, IfSome, IfNone};
 ghost use Rattle.dm_text.specs.Numbers.{TellsUpTo, TellsNumber, TellsLongNumber};
 
 /// The number that a word tells: decimal digits alone, at most 4294967295.

@@ -1,12 +1,12 @@
 //! Headers and AVPs as text, appended piece by piece: just as their `Display` prints them.
-ghost use Rattle.std.specs.Prelude.{◌≡◌, ◌++◌, ◌∷◌, [], OnOk, codes};
+ghost use Rattle.std.specs.Prelude.{◌≡◌, ◌++◌, OnOk, codes};
 ghost use Rattle.std.specs.Fmt.{decimal};
 ghost use Rattle.dm_wire.specs.Borrowed.{avp_of};
-ghost use Rattle.dm_wire.specs.Printed.{marks, avp_marks, vendor_text, data_text};
+ghost use Rattle.dm_wire.specs.Printed.{vendor_text, data_text};
 ghost use Rattle.dm_tool.specs.Text.{avp_text, header_text};
 
 use dm_text::{push_decimal, push_hexadecimal};
-use dm_wire::{AvpRef, Header};
+use dm_wire::{AvpRef, Header, avp_letters, header_letters};
 use std::alloc::AllocError;
 
 /// Appends a header: command, flags, application and identifiers.
@@ -16,8 +16,9 @@ pub fn push_header(text: &mut Vec<u8>, header: Header) -> Result<(), AllocError>
 {
     text.extend_from_slice(b"message ")?;
     push_decimal(text, u64::from(header.command))?;
-    text.extend_from_slice(kind_letters(header.request, header.proxiable))?;
-    text.extend_from_slice(state_letters(header.error, header.retransmit))?;
+    let [r, p, e, t] = header_letters(header);
+    text.extend_from_slice(&[b' ', r, p, e, t])?;
+    text.extend_from_slice(b" app ")?;
     push_decimal(text, u64::from(header.application))?;
     push_identifiers(text, header.hop_id, header.end_id)
 }
@@ -40,8 +41,8 @@ pub fn push_avp(text: &mut Vec<u8>, avp: AvpRef<'_>) -> Result<(), AllocError>
 {
     push_decimal(text, u64::from(avp.code))?;
     push_vendor(text, avp.vendor)?;
-    let letters = avp_letters(avp.vendor.is_some(), avp.mandatory, avp.protected);
-    text.extend_from_slice(letters)?;
+    let [v, m, p] = avp_letters(avp.vendor.is_some(), avp.mandatory, avp.protected);
+    text.extend_from_slice(&[b' ', v, m, p, b' '])?;
     push_data(text, avp.bytes)
 }
 
@@ -66,45 +67,5 @@ fn push_data(text: &mut Vec<u8>, octets: &[u8]) -> Result<(), AllocError>
         text.extend_from_slice(b"-")
     } else {
         push_hexadecimal(text, octets)
-    }
-}
-
-/// The letters of an AVP's flags, each where its flag is set, else `-`, between two spaces.
-fn avp_letters(vendor: bool, mandatory: bool, protected: bool) -> &'static [u8; 5]
-    ensures { result.now ≡ codes " " ++ avp_marks vendor mandatory protected ++ codes " " }
-{
-    match (vendor, mandatory, protected) {
-        (false, false, false) => b" --- ",
-        (false, false, true) => b" --P ",
-        (false, true, false) => b" -M- ",
-        (false, true, true) => b" -MP ",
-        (true, false, false) => b" V-- ",
-        (true, false, true) => b" V-P ",
-        (true, true, false) => b" VM- ",
-        (true, true, true) => b" VMP ",
-    }
-}
-
-/// A space and the letters of a header's first two flags.
-fn kind_letters(request: bool, proxiable: bool) -> &'static [u8; 3]
-    ensures { result.now ≡ codes " " ++ marks (request ∷ proxiable ∷ []) (codes "RP") }
-{
-    match (request, proxiable) {
-        (false, false) => b" --",
-        (false, true) => b" -P",
-        (true, false) => b" R-",
-        (true, true) => b" RP",
-    }
-}
-
-/// The letters of its other two, and the word for the application.
-fn state_letters(error: bool, retransmit: bool) -> &'static [u8; 7]
-    ensures { result.now ≡ marks (error ∷ retransmit ∷ []) (codes "ET") ++ codes " app " }
-{
-    match (error, retransmit) {
-        (false, false) => b"-- app ",
-        (false, true) => b"-T app ",
-        (true, false) => b"E- app ",
-        (true, true) => b"ET app ",
     }
 }

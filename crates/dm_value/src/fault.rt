@@ -1,7 +1,6 @@
 //! What data of a type can have wrong, and want of memory.
 ghost use Rattle.std.specs.Prelude.{◌≡◌};
 
-use dm_wire::WireFault;
 use std::alloc::{AllocError, AllocFailed};
 use thiserror::Error;
 

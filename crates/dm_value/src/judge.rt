@@ -1,5 +1,5 @@
 //! Whether octets are data of a type (RFC 6733, 4.2 to 4.4).
-ghost use Rattle.std.specs.Prelude.{◌≡◌, ◌≢◌, ◌↔◌, ◌⊎◌, ℕ, length, Some, None, IfSome, IfNone};
+ghost use Rattle.std.specs.Prelude.{◌≡◌, ◌↔◌, length, Some, IfSome, IfNone};
 ghost use Rattle.std.specs.List.{list_all};
 ghost use Rattle.std.specs.Str.{is_utf8};
 ghost use Rattle.dm_value.specs.Columns.{HasWrongLength, HasWrongValue, RefusesData};

@@ -1,6 +1,5 @@
 //! Addresses and values as text.
 ghost use Rattle.std.specs.Prelude.{◌≡◌, Some};
-ghost use Rattle.std.specs.Net.Addr.{ipv4_octets, ipv6_segments, segments_of};
 ghost use Rattle.dm_value.specs.Printed.{ip_words, ip_text, address_text, name_text, value_text, IsAddressOf};
 
 use crate::{Address, Ip, Text, Value, unix_seconds, utc_date};

@@ -1,5 +1,5 @@
 //! Values from octets (RFC 6733, 4.2 to 4.4).
-ghost use Rattle.std.specs.Prelude.{◌≡◌, ◌≢◌, ◌⊎◌, ◌↔◌, IfOk, IfErr, IsErrOf, OnErr, None, length, drop};
+ghost use Rattle.std.specs.Prelude.{◌≡◌, ◌⊎◌, ◌↔◌, IfOk, IfErr, IsErrOf, OnErr, None, length, drop};
 ghost use Rattle.dm_value.specs.Columns.{HasWrongLength, HasWrongValue, HoldsOctets, RefusesData};
 ghost use Rattle.dm_value.specs.Flaws.{flaw};
 ghost use Rattle.dm_value.specs.Meaning.{Means};

@@ -5,10 +5,10 @@ ghost use Rattle.std.specs.Fmt.{decimal};
 ghost use Rattle.std.specs.Str.{IsAscii};
 ghost use Rattle.std.specs.String.{string_bytes};
 ghost use Rattle.dm_wire.specs.Borrowed.{avp_of};
-ghost use Rattle.dm_wire.specs.Printed.{flag_mark, avp_marks, avp_front_text, vendor_text};
+ghost use Rattle.dm_wire.specs.Printed.{avp_marks, avp_front_text, vendor_text};
 ghost use Rattle.dm_view.specs.declared.behind_name.TheConstants.{LETTERS as letters, FRONT_SIZE as front_size};
 
-use dm_wire::AvpRef;
+use dm_wire::{AvpRef, avp_letters};
 use itoa::write_digits;
 use std::alloc::AllocError;
 use std::str;
@@ -20,22 +20,16 @@ const LETTERS: usize = 22;
 /// So many octets stand behind a name at most.
 const FRONT_SIZE: usize = 26;
 
-/// The letter of a flag where it is set, else `-`.
-fn flag_letter(set: bool, letter: u8) -> u8
-    ensures { result ≡ flag_mark set letter }
-{
-    if set { letter } else { b'-' }
-}
-
 /// Room for what stands behind a name, the letters of an AVP's flags at its end.
 fn front_room(vendor: bool, mandatory: bool, protected: bool) -> [u8; FRONT_SIZE]
     ensures put { drop letters result ≡ 32 ∷ avp_marks vendor mandatory protected }
     ensures ascii { IsAscii (avp_marks vendor mandatory protected) }
 {
     let mut room = [b' '; FRONT_SIZE];
-    room[LETTERS + 1] = flag_letter(vendor, b'V');
-    room[LETTERS + 2] = flag_letter(mandatory, b'M');
-    room[LETTERS + 3] = flag_letter(protected, b'P');
+    let [v, m, p] = avp_letters(vendor, mandatory, protected);
+    room[LETTERS + 1] = v;
+    room[LETTERS + 2] = m;
+    room[LETTERS + 3] = p;
     room
 }
 

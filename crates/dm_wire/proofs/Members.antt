@@ -14,7 +14,7 @@ use Rattle.dm_wire.specs.declared.borrowed.AvpRef.{AvpRef}
 use Rattle.dm_wire.specs.Borrowed.{avp_of}
 use Rattle.dm_wire.specs.declared.front.Extent.{Extent}
 use Rattle.dm_wire.specs.Extents.{IsExtent}
-use Rattle.dm_wire.specs.Members.{vendor_at, length_at, padded, avp_at, begins_with_avp, members_by, members}
+use Rattle.dm_wire.specs.Members.{vendor_at, length_at, padded, avp_at, begins_with_avp, members_within, members}
 
 -- an AVP begins s, as numbers
 pub record Begins (s : List ℕ) : Type 0 where
@@ -97,7 +97,7 @@ pub moved : (s : List ℕ) → Begins s → 8 ≤ padded (length_at s)
 moved s b = let eight = header_above (vendor_at s) in let above = b.above in omega arith
 
 -- enough is enough
-pub enough : (n m : ℕ) (s : List ℕ) → length s ≤ n → length s ≤ m → members_by n s ≡ members_by m s
+pub enough : (n m : ℕ) (s : List ℕ) → length s ≤ n → length s ≤ m → members_within n s ≡ members_within m s
 enough zero zero [] h k = refl
 enough zero (suc m) [] h k = refl
 enough (suc n) zero [] h k = refl
@@ -105,15 +105,15 @@ enough (suc n) (suc m) [] h k = refl
 enough zero m (x ∷ s) h k = absurd (omega arith)
 enough (suc n) zero (x ∷ s) h k = absurd (omega arith)
 enough (suc n) (suc m) (x ∷ s) h k = by (λ r. enough n m r) (begins_with_avp (x ∷ s)) refl where
-  by : ((r : List ℕ) → length r ≤ n → length r ≤ m → members_by n r ≡ members_by m r) → (b : Bool) →
-      begins_with_avp (x ∷ s) ≡ b → members_by (suc n) (x ∷ s) ≡ members_by (suc m) (x ∷ s)
+  by : ((r : List ℕ) → length r ≤ n → length r ≤ m → members_within n r ≡ members_within m r) → (b : Bool) →
+      begins_with_avp (x ∷ s) ≡ b → members_within (suc n) (x ∷ s) ≡ members_within (suc m) (x ∷ s)
   by shorter true e =
       let rest = drop (padded (length_at (x ∷ s))) (x ∷ s) in
       let b = begins (x ∷ s) e in
       let behind : length rest ≡ length (x ∷ s) - padded (length_at (x ∷ s)) = length-drop (padded (length_at (x ∷ s)))
       (x ∷ s) in
       let eight : 8 ≤ padded (length_at (x ∷ s)) = moved (x ∷ s) b in
-      let same : members_by n rest ≡ members_by m rest = shorter rest (omega arith) (omega arith) in
+      let same : members_within n rest ≡ members_within m rest = shorter rest (omega arith) (omega arith) in
       rw e (ap (option_map (λ l. avp_at (x ∷ s) ∷ l)) same)
   by shorter false e = rw e refl
 
@@ -131,7 +131,7 @@ members_begun (x ∷ s) b =
     let behind : length rest ≡ length (x ∷ s) - padded (length_at (x ∷ s)) = length-drop (padded (length_at (x ∷ s)))
     (x ∷ s) in
     let eight : 8 ≤ padded (length_at (x ∷ s)) = moved (x ∷ s) b in
-    let same : members_by (length s) rest ≡ members_by (length rest) rest =
+    let same : members_within (length s) rest ≡ members_within (length rest) rest =
     enough (length s) (length rest) rest (omega arith) (omega arith) in
     rw (begins_test (x ∷ s) b) (ap (option_map (λ l. avp_at (x ∷ s) ∷ l)) same)
 

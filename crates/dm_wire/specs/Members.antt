@@ -35,16 +35,16 @@ begins_with_avp s = nat_le 8 (length s) && nat_le (avp_header_len (vendor_at s))
     nat_le (padded (length_at s)) (length s)
 
 -- at most n AVPs
-abbrev pub members_by : ℕ → List ℕ → Option (List Avp)
-members_by n [] = Some []
-members_by zero (x ∷ s) = None
-members_by (suc n) (x ∷ s) =
+abbrev pub members_within : ℕ → List ℕ → Option (List Avp)
+members_within n [] = Some []
+members_within zero (x ∷ s) = None
+members_within (suc n) (x ∷ s) =
     if begins_with_avp (x ∷ s) then
-    option_map (λ l. avp_at (x ∷ s) ∷ l) (members_by n (drop (padded (length_at (x ∷ s))) (x ∷ s))) else None
+    option_map (λ l. avp_at (x ∷ s) ∷ l) (members_within n (drop (padded (length_at (x ∷ s))) (x ∷ s))) else None
 
 -- the AVPs of which s is the spellings, one after the other, where it is
 unfoldable pub members : List ℕ → Option (List Avp)
-members s = members_by (length s) s
+members s = members_within (length s) s
 
 -- octets have just the members that they spell
 abbrev pub MembersSpell : Type 0

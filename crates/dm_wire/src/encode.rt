@@ -5,7 +5,7 @@ ghost use Rattle.dm_wire.specs.Canonical.{canonical_list, canonical_header, cano
 ghost use Rattle.dm_wire.specs.Limits.{IsLongList, IsLongMessage};
 
 use crate::codes::limits::{HEADER_LEN, MAX_MESSAGE_LEN};
-use crate::put::{header_octets, put_list, write_message};
+use crate::put::{header_octets, push_list, write_message};
 use crate::size::list_size;
 use crate::{Avp, Message, WireFault};
 use std::alloc::Global;
@@ -34,7 +34,7 @@ pub fn encode_avps(alloc: Global, avps: &[Avp]) -> Result<Vec<u8>, WireFault>
         return Err(WireFault::TooLong);
     };
     let mut list = Vec::with_capacity(alloc, size)?;
-    put_list(&mut list, avps)?;
+    push_list(&mut list, avps)?;
     Ok(list)
 }
 

@@ -3,7 +3,7 @@ ghost use Rattle.std.specs.Prelude.{◌≡◌, ◌<◌, ◌^◌, option_copied, 
 ghost use Rattle.std.specs.List.{find};
 ghost use Rattle.dm_wire.specs.Finding.{is_of};
 
-use crate::{Avp, AvpList, Message};
+use crate::{Avp, Message};
 use std::marker::Model;
 
 /// The AVPs of a code and vendor, in order. It never answers want of memory.

@@ -1,5 +1,5 @@
 //! The AVP at the front of octets: how far it goes, and then its fields (RFC 6733, 4.1).
-ghost use Rattle.std.specs.Prelude.{◌≡◌, ◌^◌, ◌<◌, ◌≤◌, ◌⊎◌, false, None, [], ◌∷◌, length};
+ghost use Rattle.std.specs.Prelude.{◌≡◌, ◌^◌, ◌<◌, ◌≤◌, false, ◌∷◌, length};
 ghost use Rattle.std.specs.Prelude.{drop, slice_index, option_map, IfSome, IfNone, IfOk};
 ghost use Rattle.byteorder.specs.Endian.{big_number};
 ghost use Rattle.dm_wire.specs.Borrowed.{avp_of};

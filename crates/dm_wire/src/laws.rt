@@ -119,8 +119,9 @@ pub fn message_in_spells()
     ensures { MessageInSpells }
 {}
 
-/// A message that is spelled is the message in the octets (3). It stands for the layers above.
-pub fn spelled_is_in()
+/// What octets spell is found in them: `message_in` has just that message (3). `message_in_spells` is the other way
+/// round. It stands for the layers above.
+pub fn spelled_is_found()
     ensures { SpelledIsIn }
 {}
 

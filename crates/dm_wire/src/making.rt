@@ -1,6 +1,5 @@
 //! AVPs, headers and messages made from their parts, and copies of them.
-ghost use Rattle.std.specs.Prelude.{◌≡◌, true, false, Some, None};
-ghost use Rattle.dm_wire.specs.declared.fault.WireFault.TheVariants as fault;
+ghost use Rattle.std.specs.Prelude.{◌≡◌, false};
 ghost use Rattle.dm_wire.specs.Making.{header_answering, fault_code};
 
 use crate::codes::results;

@@ -1,5 +1,5 @@
 //! Messages where they lie (RFC 6733, 3).
-ghost use Rattle.std.specs.Prelude.{◌≡◌, ◌≢◌, ◌↔◌, true, ℕ, List, drop, is_some, IfOk, IsOkAnd, IfErr, IsErrOf};
+ghost use Rattle.std.specs.Prelude.{◌≡◌, ◌↔◌, true, ℕ, List, drop, is_some, IfOk, IsOkAnd, IfErr, IsErrOf};
 ghost use Rattle.dm_wire.specs.declared.avp.Avp.{Avp};
 ghost use Rattle.dm_wire.specs.declared.fault.WireFault.{WireFault};
 ghost use Rattle.dm_wire.specs.declared.message.Message.{Message};

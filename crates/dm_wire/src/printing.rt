@@ -1,13 +1,15 @@
 //! Octets, AVPs and headers as text.
-ghost use Rattle.std.specs.Prelude.{◌≡◌, ◌∷◌, [], Some, codes};
+ghost use Rattle.std.specs.Prelude.{◌≡◌, Some};
+ghost use Rattle.std.specs.Str.{IsAscii};
 ghost use Rattle.hex.specs.Hex.{encode_lower};
 ghost use Rattle.dm_wire.specs.Borrowed.{avp_of};
-ghost use Rattle.dm_wire.specs.Printed.{marks, avp_marks, avp_front_text, avp_text, list_text};
+ghost use Rattle.dm_wire.specs.Printed.{avp_front_text, avp_text, list_text};
 ghost use Rattle.dm_wire.specs.Printed.{header_text, vendor_text, data_text};
 
+use crate::letters::{avp_letters, header_letters};
 use crate::{Avp, AvpRef, Header, Listed};
 use dm_text::Hexadecimal;
-use std::fmt;
+use std::{fmt, str};
 
 /// In lower case hexadecimal.
 impl fmt::Display for Listed<u8> {
@@ -40,7 +42,8 @@ impl fmt::Display for AvpFront<'_> {
     #[tactic(auto, unfolding(crate::specs::Printed::avp_front_text))]
     fn fmt<W: fmt::Write>(&self, f: &mut fmt::Formatter<W>) -> fmt::Result {
         let vendor = VendorText(self.0.vendor);
-        let letters = avp_letters_of(self.0.vendor.is_some(), self.0.mandatory, self.0.protected);
+        let letters = avp_letters(self.0.vendor.is_some(), self.0.mandatory, self.0.protected);
+        let letters = text_of(&letters);
         write!(f, "{}{vendor} {letters}", self.0.code)
     }
 }
@@ -73,52 +76,20 @@ impl fmt::Display for Header {
 
     #[tactic(auto, unfolding(crate::specs::Printed::header_text))]
     fn fmt<W: fmt::Write>(&self, f: &mut fmt::Formatter<W>) -> fmt::Result {
-        let kind = kind_letters(self.request, self.proxiable);
-        let state = state_letters(self.error, self.retransmit);
-        write!(f, "message {} {kind}{state}", self.command)?;
+        let letters = header_letters(*self);
+        let letters = text_of(&letters);
+        write!(f, "message {} {letters}", self.command)?;
         write!(f, " app {}", self.application)?;
         write!(f, " hop {} end {}", self.hop_id, self.end_id)
     }
 }
 
-/// The letters of an AVP's flags, each where its flag is set, else `-`: as one text, so that it is written at once.
-fn avp_letters_of(vendor: bool, mandatory: bool, protected: bool) -> &'static str
-    ensures { result.now ≡ avp_marks vendor mandatory protected }
+/// Letters as text.
+fn text_of(letters: &[u8]) -> &str
+    requires { IsAscii letters.now }
+    ensures { result.now ≡ letters.now }
 {
-    match (vendor, mandatory, protected) {
-        (false, false, false) => "---",
-        (false, false, true) => "--P",
-        (false, true, false) => "-M-",
-        (false, true, true) => "-MP",
-        (true, false, false) => "V--",
-        (true, false, true) => "V-P",
-        (true, true, false) => "VM-",
-        (true, true, true) => "VMP",
-    }
-}
-
-/// The letters of a header's first two flags.
-fn kind_letters(request: bool, proxiable: bool) -> &'static str
-    ensures { result.now ≡ marks (request ∷ proxiable ∷ []) (codes "RP") }
-{
-    match (request, proxiable) {
-        (false, false) => "--",
-        (false, true) => "-P",
-        (true, false) => "R-",
-        (true, true) => "RP",
-    }
-}
-
-/// The letters of its other two.
-fn state_letters(error: bool, retransmit: bool) -> &'static str
-    ensures { result.now ≡ marks (error ∷ retransmit ∷ []) (codes "ET") }
-{
-    match (error, retransmit) {
-        (false, false) => "--",
-        (false, true) => "-T",
-        (true, false) => "E-",
-        (true, true) => "ET",
-    }
+    unsafe { str::from_utf8_unchecked(letters) }
 }
 
 /// The vendor of an AVP behind a `/`, where there is one.

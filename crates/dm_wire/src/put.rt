@@ -44,7 +44,7 @@ fn avp_header(avp: AvpRef<'_>, length: u32) -> [u8; 8]
 
 /// The Vendor-ID field, appended where there is one.
 #[inline(always)]
-fn put_vendor(out: &mut Vec<u8>, vendor: Option<u32>) -> Result<(), AllocError>
+fn push_vendor(out: &mut Vec<u8>, vendor: Option<u32>) -> Result<(), AllocError>
     ensures { OnOk result (out.new.items ≡ out.old.items ++ vendor_octets vendor) }
 {
     if let Some(vendor) = vendor {
@@ -57,7 +57,7 @@ fn put_vendor(out: &mut Vec<u8>, vendor: Option<u32>) -> Result<(), AllocError>
 
 /// The zero octets that fill up an AVP of this Length to a multiple of 4, appended.
 #[inline(always)]
-fn put_padding(out: &mut Vec<u8>, length: usize) -> Result<(), AllocError>
+fn push_padding(out: &mut Vec<u8>, length: usize) -> Result<(), AllocError>
     ensures { OnOk result (out.new.items ≡ out.old.items ++ zeros length) }
 {
     match length % 4 {
@@ -71,16 +71,16 @@ fn put_padding(out: &mut Vec<u8>, length: usize) -> Result<(), AllocError>
 
 /// The AVP, whose Length this is and fits its field, appended.
 #[inline(always)]
-fn put_fitting(out: &mut Vec<u8>, avp: AvpRef<'_>, length: usize) -> Result<(), AllocError>
+fn push_fitting(out: &mut Vec<u8>, avp: AvpRef<'_>, length: usize) -> Result<(), AllocError>
     requires length { length ≡ avp_length (avp_of avp) }
     requires fits { avp_length (avp_of avp) < 256 ^ 3 }
     ensures { OnOk result (out.new.items ≡ out.old.items ++ canonical_avp (avp_of avp.entry)) }
 {
     let header = avp_header(avp, length as u32);
     out.extend_from_slice(&header)?;
-    put_vendor(out, avp.vendor)?;
+    push_vendor(out, avp.vendor)?;
     out.extend_from_slice(avp.bytes)?;
-    put_padding(out, length)?;
+    push_padding(out, length)?;
     Ok(())
 }
 
@@ -90,7 +90,7 @@ fn put_fitting(out: &mut Vec<u8>, avp: AvpRef<'_>, length: usize) -> Result<(), 
 /// Refuses with `TooLong` where the AVP Length would pass 16777215, whatever memory there is, and appends nothing then;
 /// else with `NoMemory`.
 #[inline(always)]
-pub fn put_avp(out: &mut Vec<u8>, avp: AvpRef<'_>) -> Result<(), WireFault>
+pub fn push_avp(out: &mut Vec<u8>, avp: AvpRef<'_>) -> Result<(), WireFault>
     ensures put { OnOk result (out.new.items ≡ out.old.items ++ canonical_avp (avp_of avp.entry)) }
     ensures long { IsErrOf result WireFault.TooLong ↔ (max_avp_len < avp_length (avp_of avp.entry)) }
     ensures unchanged { IsErrOf result WireFault.TooLong → out.new.items ≡ out.old.items }
@@ -100,19 +100,19 @@ pub fn put_avp(out: &mut Vec<u8>, avp: AvpRef<'_>) -> Result<(), WireFault>
     if length > MAX_AVP_LEN as usize {
         return Err(WireFault::TooLong);
     }
-    put_fitting(out, avp, length)?;
+    push_fitting(out, avp, length)?;
     Ok(())
 }
 
 /// The AVPs, appended one after the other.
-pub(crate) fn put_list(out: &mut Vec<u8>, avps: &[Avp]) -> Result<(), AllocError>
+pub(crate) fn push_list(out: &mut Vec<u8>, avps: &[Avp]) -> Result<(), AllocError>
     requires { SpellsList avps.now (canonical_list avps.now) }
     ensures { OnOk result (out.new.items ≡ out.old.items ++ canonical_list avps.now) }
 {
     let mut left = avps;
     while let [avp, rest @ ..] = left {
         let avp = avp.borrowed();
-        put_fitting(out, avp, header_len(avp.vendor) + avp.bytes.len())?;
+        push_fitting(out, avp, header_len(avp.vendor) + avp.bytes.len())?;
         left = rest;
     }
     Ok(())

@@ -1,7 +1,6 @@
 //! How many interfaces a section may describe.
 use dm_capture::{CaptureReader, FaultKind};
 use std::alloc::Global;
-use std::process::Abort;
 
 /// A section's header, in the lower order of octets.
 const SECTION: &str = "0a0d0d0a1c0000004d3c2b1a01000000ffffffffffffffff1c000000";

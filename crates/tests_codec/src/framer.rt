@@ -37,11 +37,36 @@ fn push_whole_by_pieces(
     Ok(())
 }
 
+/// The same where of each piece no more is fed at once than the message at the front wants.
+fn push_whole_by_fronts(
+    framer: &mut Framer,
+    pieces: &[&[u8]],
+    told: &mut Vec<u8>,
+) -> Result<(), FrameFault> {
+    for piece in pieces {
+        let mut rest = *piece;
+        for _ in 0..4u8 {
+            let size = framer.feed_front(rest)?;
+            rest = &rest[size..];
+            push_whole(framer, told)?;
+        }
+    }
+    Ok(())
+}
+
 /// Whether the pieces give these messages.
 fn give(alloc: Global, pieces: &[&[u8]], messages: &[u8]) -> bool {
     let mut framer = Framer::new(alloc, GREATEST);
     let mut told = Vec::new(alloc);
     let done = push_whole_by_pieces(&mut framer, pieces, &mut told);
+    done.is_ok() && told.as_slice() == messages
+}
+
+/// The same where they are fed by fronts.
+fn give_by_fronts(alloc: Global, pieces: &[&[u8]], messages: &[u8]) -> bool {
+    let mut framer = Framer::new(alloc, GREATEST);
+    let mut told = Vec::new(alloc);
+    let done = push_whole_by_fronts(&mut framer, pieces, &mut told);
     done.is_ok() && told.as_slice() == messages
 }
 
@@ -64,7 +89,8 @@ fn give_cut_anywhere(alloc: Global, octets: &[u8], messages: &[u8]) -> bool {
         let (front, back) = octets.split_at(first);
         for second in 0..back.len() {
             let (middle, end) = back.split_at(second);
-            if !give(alloc, &[front, middle, end], messages) {
+            let pieces = [front, middle, end];
+            if !give(alloc, &pieces, messages) || !give_by_fronts(alloc, &pieces, messages) {
                 return false;
             }
         }
@@ -151,4 +177,79 @@ fn hands_out_before_fault(alloc: Global) -> Result<bool, FrameFault> {
 fn message_before_fault(rt: HostRuntime) -> Result<(), Fail> {
     assert!(rt; hands_out_before_fault(rt.alloc()) == Ok(true));
     Ok(())
+}
+
+/// Two headers, the first of which stands whole at 20.
+const TWO_HEADERS: [u8; 40] = [
+    1, 0, 0, 20, 0, 0, 0, 0, 0, 0, 0, 0, 0, 0, 0, 0, 0, 0, 0, 0, //
+    1, 0, 0, 20, 0, 0, 0, 0, 0, 0, 0, 0, 0, 0, 0, 0, 0, 0, 0, 0,
+];
+
+/// Of two headers: how many octets are held, where the piece behind them ends, and how many of it the front wants.
+const FRONTS: [(usize, usize, usize); 9] = [
+    // no octet, and a header that isn't told or isn't whole: all
+    (0, 0, 0),
+    (0, 3, 3),
+    (0, 19, 19),
+    (4, 19, 15),
+    // the end of a message, and the front of the next behind it
+    (0, 20, 20),
+    (0, 22, 20),
+    (2, 23, 18),
+    (19, 40, 1),
+    // a message that is whole: none
+    (20, 40, 0),
+];
+
+/// How many octets the front wants, and how many are held when they were taken back.
+fn fed_and_back(framer: &mut Framer, held: &[u8], piece: &[u8]) -> Option<(usize, usize)> {
+    framer.feed(held).ok()?;
+    let size = framer.feed_front(piece).ok()?;
+    framer.take_back(size);
+    Some((size, framer.len()))
+}
+
+/// Whether a message stands at the front behind these octets.
+fn hands_out(framer: &mut Framer, octets: &[u8]) -> Result<bool, FrameFault> {
+    framer.feed(octets)?;
+    Ok(framer.next()?.is_some())
+}
+
+/// Whether a row holds, and a message is handed out when all that is behind the octets held is fed.
+fn is_front(alloc: Global, row: (usize, usize, usize)) -> bool {
+    let (held, end, wanted) = row;
+    let (front, behind) = TWO_HEADERS.as_slice().split_at(held.min(40));
+    let piece = &behind[..end.saturating_sub(held).min(behind.len())];
+    let mut framer = Framer::new(alloc, GREATEST);
+    let done = fed_and_back(&mut framer, front, piece);
+    done == Some((wanted, held)) && hands_out(&mut framer, behind) == Ok(true)
+}
+
+/// Whether all rows hold.
+fn are_fronts(alloc: Global, rows: &[(usize, usize, usize)]) -> bool {
+    for row in rows {
+        if !is_front(alloc, *row) {
+            return false;
+        }
+    }
+    true
+}
+
+#[test]
+fn fronts_of_pieces(rt: HostRuntime) {
+    assert!(rt; are_fronts(rt.alloc(), &FRONTS));
+}
+
+/// How many octets are fed where a fault stands at the front, and whether it is forgotten when they were taken back.
+fn fault_taken_back(alloc: Global) -> Result<(usize, bool), FrameFault> {
+    let mut framer = Framer::new(alloc, GREATEST);
+    let size = framer.feed_front(&[2, 0, 0, 20, 0])?;
+    let is_fault = framer.next().err() == Some(FrameFault::BadVersion);
+    framer.take_back(9);
+    Ok((size, is_fault && hands_out(&mut framer, &HEADER)?))
+}
+
+#[test]
+fn fault_is_taken_back(rt: HostRuntime) {
+    assert!(rt; fault_taken_back(rt.alloc()) == Ok((5, true)));
 }

@@ -2,7 +2,7 @@
 use super::laws::Law;
 use super::pair::{Deliveries, Letter, run_deliveries};
 use super::{Choice, Search, run_all};
-use crate::search::{Seen, found};
+use crate::search::found;
 use dm_world::Side;
 
 /// What may happen where two links are made at most.

@@ -2,7 +2,6 @@
 use dm_replay::{read_script, trace};
 use dm_world::World;
 use std::alloc::Global;
-use std::process::Abort;
 
 const SCRIPT: &[u8] = b"peer A b.example 4\npeer B a.example 4\nstart A\n";
 

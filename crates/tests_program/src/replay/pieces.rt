@@ -6,7 +6,6 @@ use super::rows::{
 use dm_replay::{read_script, trace};
 use dm_world::{Conn, Effect, Happening, Side, World};
 use std::alloc::Global;
-use std::process::Abort;
 
 /// Octets of the messages of these rows.
 const CER: u32 = 112;

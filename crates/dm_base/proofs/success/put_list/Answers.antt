@@ -12,4 +12,4 @@ returns-clause-put c =
     (c.borrowed.ensures ∙ ap (avp _) c.to_be_bytes.ensures)
     (c.borrowed-2.ensures ∙ ap (avp origin_host) c.as_slice.ensures)
     (c.borrowed-3.ensures ∙ ap (avp origin_realm) c.as_slice-2.ensures)
-    c.in_ok-put_avp.ensures.put c.in_ok-put_avp-2.ensures.put c.in_ok-put_avp-3.ensures.put
+    c.in_ok-push_avp.ensures.put c.in_ok-push_avp-2.ensures.put c.in_ok-push_avp-3.ensures.put

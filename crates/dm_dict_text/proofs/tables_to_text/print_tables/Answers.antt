@@ -9,7 +9,7 @@ use Rattle.dm_dict_text.proofs.tables_to_text.print_tables.Goals as goal
 pub returns-clause-again : goal.returns-clause-again
 returns-clause-again c =
     let d = defined c.args.tables.now in
-    let text : c.put_tables.new.text.items ≡ printed d =
-    c.in_ok-put_tables.ensures ∙ ap (λ t. t ++ printed d) c.new-text.ensures.items in
+    let text : c.push_tables.new.text.items ≡ printed d =
+    c.in_ok-push_tables.ensures ∙ ap (λ t. t ++ printed d) c.new-text.ensures.items in
     subst (λ (t : List ℕ). Defines t nothing_defined d) (sym text)
     (printed_again c.words_law.ensures.name d c.requires.tables.sound c.requires.closed)

@@ -19,7 +19,7 @@ returns c =
           own_dpr = c.built_is_own.ensures.dpr;
           own_dpa = c.built_is_own.ensures.dpa;
           canonical = c.canonical_spells.ensures;
-          inside = c.spelled_is_in.ensures;
+          inside = c.spelled_is_found.ensures;
         };
       };
       shape = c.each_step_keeps_shape.ensures;

@@ -1,5 +1,5 @@
 -- Octets that are looked at go by the message that they spell, or by none.
-use Rattle.std.proofs.Common.{◌≡◌, ◌∙◌, ℕ, ap, subst, List, Option, None, Some, Result, IfOk, IfErr, false, if◌then◌else◌}
+use Rattle.std.proofs.Common.{◌≡◌, ◌∙◌, ℕ, ap, subst, List, Option, None, Some, IfOk, IfErr, false, if◌then◌else◌}
 use Rattle.std.proofs.Math.Facts.{Fits-lt-pow}
 use Rattle.dm_wire.specs.declared.avp.Avp.{Avp}
 use Rattle.dm_wire.specs.declared.message.Message.{Message}

@@ -4,7 +4,6 @@ use Rattle.dm_wire.specs.Spelling.{avp_header_len}
 use Rattle.dm_wire.specs.Members.{vendor_at, length_at, padded}
 use Rattle.dm_wire.proofs.Members.{members_begun}
 use Rattle.dm_wire.proofs.front.first_extent.Goals as goal
-use Rattle.dm_wire.proofs.front.first_extent.Goals.{then-flags-eq0, else-flags-eq0}
 
 pub returns-clause-members : goal.returns-clause-members
 returns-clause-members c =
