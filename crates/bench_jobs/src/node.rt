@@ -6,7 +6,7 @@ use crate::draft::put;
 use crate::messages::{Samples, capabilities, letters_of};
 use anyhow::Result;
 use dm_dict::Ip;
-use dm_node::{Action, Answer, Config, Conn, EventFault, Node, NodeOrder, PeerFault, Told};
+use dm_node::{Action, Answer, Config, Conn, Node, Order, OrderFault, PeerFault, Told};
 use dm_peer::State;
 use std::alloc::Global;
 
@@ -111,14 +111,13 @@ fn number_of(octets: &[u8]) -> u32 {
     }
 }
 
-fn fault_number(fault: EventFault) -> u64 {
+fn fault_number(fault: OrderFault) -> u64 {
     match fault {
-        EventFault::NoNeighbour => 11,
-        EventFault::Held => 12,
-        EventFault::Peer(PeerFault::NotClosed) => 13,
-        EventFault::Peer(PeerFault::NotOpen) => 14,
-        EventFault::Peer(PeerFault::BadSubmit) => 15,
-        EventFault::Peer(PeerFault::NoMemory) => 16,
+        OrderFault::NoNeighbour => 11,
+        OrderFault::Peer(PeerFault::NotClosed) => 13,
+        OrderFault::Peer(PeerFault::NotOpen) => 14,
+        OrderFault::Peer(PeerFault::BadSubmit) => 15,
+        OrderFault::Peer(PeerFault::NoMemory) => 16,
     }
 }
 
@@ -142,7 +141,7 @@ impl Notes {
     }
 
     /// Notes what an order came to.
-    fn note_order(&mut self, done: Result<(), EventFault>, answer: &Answer) -> Result<()> {
+    fn note_order(&mut self, done: Result<(), OrderFault>, answer: &Answer) -> Result<()> {
         match done {
             Ok(()) => self.note_told(answer),
             Err(fault) => {
@@ -311,7 +310,7 @@ impl Driver {
     }
 
     /// Gives an order without octets.
-    fn order(&mut self, order: NodeOrder<'_>) -> Result<()> {
+    fn order(&mut self, order: Order<'_>) -> Result<()> {
         let done = self.node.order(self.alloc, order, &mut self.answer);
         self.notes.note_order(done, &self.answer)
     }
@@ -339,7 +338,7 @@ impl Driver {
     /// A neighbour that isn't open gets a new connection.
     fn begin_anew(&mut self, index: usize) -> Result<()> {
         if self.node.state_of(index) != Some(State::Closed) {
-            self.order(NodeOrder::Reset(index))?;
+            self.order(Order::Reset(index))?;
         }
         if self.chance.is_one_of(8) {
             self.call_neighbour(index)
@@ -352,7 +351,7 @@ impl Driver {
     fn be_called(&mut self, index: usize) -> Result<()> {
         let conn = self.next_conn();
         self.link(index, conn);
-        self.order(NodeOrder::Accept(conn))?;
+        self.order(Order::Accept(conn))?;
         self.say_host(conn, u32::try_from(index).unwrap_or(0))
     }
 
@@ -382,27 +381,27 @@ impl Driver {
     fn call_neighbour(&mut self, index: usize) -> Result<()> {
         let conn = self.next_conn();
         self.link(index, conn);
-        self.order(NodeOrder::Start(index, conn))?;
-        self.order(NodeOrder::Ack(conn))?;
+        self.order(Order::Start(index, conn))?;
+        self.order(Order::Ack(conn))?;
         self.answer_host(conn, u32::try_from(index).unwrap_or(0))
     }
 
     /// The connection is lost, and made again.
     fn lose(&mut self, index: usize) -> Result<()> {
-        self.order(NodeOrder::Gone(self.conn_of(index)))?;
+        self.order(Order::Gone(self.conn_of(index)))?;
         self.begin_anew(index)
     }
 
     /// The connection is lost, and both sides make it again at once (RFC 6733, 5.6.4).
     fn cross(&mut self, index: usize) -> Result<()> {
-        self.order(NodeOrder::Gone(self.conn_of(index)))?;
+        self.order(Order::Gone(self.conn_of(index)))?;
         let own = self.next_conn();
-        self.order(NodeOrder::Start(index, own))?;
+        self.order(Order::Start(index, own))?;
         if self.chance.is_one_of(2) {
             self.be_called(index)?;
-            self.order(NodeOrder::Ack(own))?;
+            self.order(Order::Ack(own))?;
         } else {
-            self.order(NodeOrder::Ack(own))?;
+            self.order(Order::Ack(own))?;
             self.be_called(index)?;
         }
         if self.node.state_of(index) == Some(State::WaitReturns) {
@@ -414,7 +413,7 @@ impl Driver {
     /// The other side won: it answers on the connection that the node made, or that one is lost.
     fn lose_election(&mut self, index: usize, own: Conn) -> Result<()> {
         if self.chance.is_one_of(4) {
-            self.order(NodeOrder::Gone(own))
+            self.order(Order::Gone(own))
         } else {
             self.link(index, own);
             self.answer_host(own, u32::try_from(index).unwrap_or(0))
@@ -424,7 +423,7 @@ impl Driver {
     /// A host that is no neighbour says who it is.
     fn come_strange(&mut self) -> Result<()> {
         let conn = self.next_conn();
-        self.order(NodeOrder::Accept(conn))?;
+        self.order(Order::Accept(conn))?;
         let number = self.chance.word() | STRANGERS;
         self.say_host(conn, number)
     }
@@ -435,7 +434,7 @@ impl Driver {
     /// A watchdog's time is over.
     fn tick(&mut self, index: usize) -> Result<()> {
         self.notes.own = None;
-        self.order(NodeOrder::Tick(index))?;
+        self.order(Order::Tick(index))?;
         let own = self.notes.own;
         if let (Some(link), Some(number)) = (self.links.get_mut(index), own) {
             link.awaited = Some(number);
@@ -526,61 +525,31 @@ impl Driver {
                 sample.damage(&mut self.chance, &mut self.message);
             }
         }
-        let order = NodeOrder::Submit(index, self.message.as_slice());
+        let order = Order::Submit(index, self.message.as_slice());
         let done = self.node.order(self.alloc, order, &mut self.answer);
         self.notes.note_order(done, &self.answer)
     }
 
-    /// Tells what came: whole messages where they lie, and what is left as octets of the stream.
+    /// Tells what came, turn by turn.
     fn tell_piece(&mut self, conn: Conn) -> Result<()> {
         let mut told = 0usize;
-        for _ in 0..self.piece.len() {
-            match self.hear(conn, told)? {
-                0 => break,
-                length => told = told.saturating_add(length),
+        for _ in 0..=self.piece.len() {
+            if told >= self.piece.len() {
+                break;
             }
-        }
-        if told < self.piece.len() {
-            self.keep(conn, told)?;
+            told = told.saturating_add(self.hear(conn, told)?);
         }
         Ok(())
     }
 
-    /// How many octets the message takes that is told where it lies, behind so many of the read; none where there is
-    /// no such message.
+    /// How many octets are taken behind so many of the read, at one turn of it.
     fn hear(&mut self, conn: Conn, told: usize) -> Result<usize> {
         let piece = self.piece.get(told..).unwrap_or(b"");
         match self
             .node
             .hear(self.alloc, &(), conn, piece, &mut self.answer)
         {
-            Ok(Some(length)) => self.notes.note(&self.answer).and(Ok(length)),
-            Ok(None) => Ok(0),
-            Err(error) => Err(error.into()),
-        }
-    }
-
-    /// The octets behind so many are kept, and the messages that are whole by them are told.
-    fn keep(&mut self, conn: Conn, told: usize) -> Result<()> {
-        let piece = self.piece.get(told..).unwrap_or(b"");
-        let order = NodeOrder::Octets(conn, piece);
-        let done = self.node.order(self.alloc, order, &mut self.answer);
-        self.notes.note_order(done, &self.answer)?;
-        for _ in 0..=self.piece.len() {
-            if !self.tell_next(conn)? {
-                break;
-            }
-        }
-        Ok(())
-    }
-
-    /// Whether something that was kept is told.
-    fn tell_next(&mut self, conn: Conn) -> Result<bool> {
-        match self.node.next(self.alloc, &(), conn, &mut self.answer) {
-            Ok(()) => {
-                let is_told = self.answer.told != Told::Nothing;
-                self.notes.note_told(&self.answer).and(Ok(is_told))
-            }
+            Ok(length) => self.notes.note_told(&self.answer).and(Ok(length)),
             Err(error) => Err(error.into()),
         }
     }

@@ -3,7 +3,7 @@ use Rattle.std.proofs.Common.{◌≡◌, inl, inr, ℕ, Bool, false, Result, Ok,
 use Rattle.std.proofs.Common.{is_ok, if◌then◌else◌}
 use Rattle.std.proofs.Common.{List, ◌++◌, ◌∷◌, [], Option, codes, ap, ◌∙◌, sym, subst, refl, append_assoc}
 use Rattle.dm_slots.specs.Acquaintances.{Acquaintance}
-use Rattle.dm_node.specs.declared.node_order.NodeOrder.{NodeOrder}
+use Rattle.dm_live.specs.declared.asked.Asked.{Asked}
 use Rattle.dm_node.specs.NodeKnown.{acquaintance_at}
 use Rattle.dm_value.specs.declared.address.Ip.{Ip}
 use Rattle.dm_live.specs.declared.setting_name.SettingName.{SettingName}
@@ -33,7 +33,7 @@ no_address (Ok good) name word s is none =
     let so = subst P is sets in none bad so.0 so.1
 
 -- an order's line, with the dot behind its answer
-pub told_line : {T E : Type 0} (r : Result T E) (n : ℕ) (form : Form) (o : NodeOrder) (a : AskedOfNode) (line : List ℕ)
+pub told_line : {T E : Type 0} (r : Result T E) (n : ℕ) (form : Form) (o : Asked) (a : AskedOfNode) (line : List ℕ)
     (s t : Meeting) (old mid new more : List ℕ) → TellsOrder form a line → node_asked o ≡ a → Answers form o s t more
     → mid ≡ old ++ more → new ≡ (if is_ok r then mid ++ (codes "." ++ 10 ∷ []) else mid)
     → OnOk r ((answer : List ℕ) × AnswersOrder n form line s t answer × (new ≡ old ++ answer))
@@ -49,7 +49,7 @@ told_line (Ok v) n form o a line s t old mid new more tells same answers is ends
 -- a line that tells no order
 pub untold_line : {T E : Type 0} (r : Result T E) (n : ℕ) (form : Form) (line : List ℕ) (s : Meeting)
     (old new : List ℕ) → ((i : ℕ) → IsSender form i line → ⊥)
-    → ((o : NodeOrder) → TellsOrder form (node_asked o) line → ⊥) → OnOk r (new ≡ old ++ bad_answer n)
+    → ((o : Asked) → TellsOrder form (node_asked o) line → ⊥) → OnOk r (new ≡ old ++ bad_answer n)
     → OnOk r ((answer : List ℕ) × AnswersOrder n form line s s answer × (new ≡ old ++ answer))
 untold_line (Err e) n form line s old new other none ends = tt
 untold_line (Ok v) n form line s old new other none ends = (bad_answer n, inr (inr (other, none, refl, refl)), ends)
@@ -97,11 +97,11 @@ gone_line n line a b begun old new none draft is go (answer, begins, ends) =
 
 -- a line behind it
 pub running_line : {T E : Type 0} (r : Result T E) (n : ℕ) (line : List ℕ) (settings : Settings) (begun : Begun)
-    (form : Form) (session : Node) (t : Meeting) (old new : List ℕ) → begun ≡ variant.Running form session
-    → OnOk r ((answer : List ℕ) × AnswersOrder n form line (meeting_of session) t answer × (new ≡ old ++ answer))
+    (form : Form) (node : Node) (t : Meeting) (old new : List ℕ) → begun ≡ variant.Running form node
+    → OnOk r ((answer : List ℕ) × AnswersOrder n form line (meeting_of node) t answer × (new ≡ old ++ answer))
     → OnOk r ((answer : List ℕ) × AnswersLine n line (stage_at settings begun) (Running form t) answer
     × (new ≡ old ++ answer))
-running_line (Err e) n line settings begun form session t old new is answers = tt
-running_line (Ok v) n line settings begun form session t old new is (answer, answers, ends) =
+running_line (Err e) n line settings begun form node t old new is answers = tt
+running_line (Ok v) n line settings begun form node t old new is (answer, answers, ends) =
     let From : Begun → Type 0 = λ b. AnswersLine n line (stage_at settings b) (Running form t) answer in
     (answer, subst From (sym is) (refl, answers), ends)

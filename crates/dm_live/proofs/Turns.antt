@@ -6,13 +6,14 @@ use Rattle.std.specs.Option.{option_or}
 use Rattle.dm_machine.specs.declared.connection.Conn.{Conn}
 use Rattle.dm_node.specs.Policies.{Policy}
 use Rattle.dm_peer.specs.declared.peer.Peer.{Peer}
-use Rattle.dm_node.specs.declared.node_order.NodeOrder.{NodeOrder}
+use Rattle.dm_node.specs.declared.order.Order.{Order}
+use Rattle.dm_live.specs.declared.asked.Asked.{Asked}
 use Rattle.dm_node.specs.NodeKnown.{KnownAfterOrder}
 use Rattle.dm_node.specs.NodeOrders.{NodeTakes}
 use Rattle.dm_node.specs.NodeStates.{NodeAnswer, NodeTurn}
 use Rattle.dm_live.specs.declared.form.Form.{Form}
 use Rattle.dm_live.specs.Answers.{asked_lines, whom_asked, turn_lines, turns_lines, whom_last, states_behind, policy_of}
-use Rattle.dm_live.specs.Answers.{TakesAs, MeetsNext, MeetsAlong, HearsOut, Answers}
+use Rattle.dm_live.specs.Answers.{TakesOrder, TakesAs, MeetsNext, MeetsAlong, HearsOut, Answers}
 use Rattle.dm_live.specs.Meetings.{Meeting}
 
 -- one turn more
@@ -42,11 +43,11 @@ whom_after who last next turns turn is more =
     more ∙ ap (λ v. option_or turn.answer.neighbour v) is ∙ sym (whom_push who turns turn)
 
 -- an order that was taken
-pub taken_so : {E : Type 0} (r : Result (Option ℕ) E) (form : Form) (o : NodeOrder) (m n : Meeting)
-    (asks : Option NodeAnswer) (old new : List ℕ) → NodeTakes o m.session asks n.session
-    → KnownAfterOrder asks m.session n.session m.known n.known → IfOk r (λ who. who ≡ whom_asked o asks)
+pub taken_so : {E : Type 0} (r : Result (Option ℕ) E) (form : Form) (o : Order) (m n : Meeting)
+    (asks : Option NodeAnswer) (old new : List ℕ) → NodeTakes o m.node asks n.node
+    → KnownAfterOrder asks m.node n.node m.known n.known → IfOk r (λ who. who ≡ whom_asked o asks)
     → OnOk r (new ≡ old ++ asked_lines form o asks)
-    → IfOk r (λ who. (own : List ℕ) × TakesAs form o m who n own × (new ≡ old ++ own))
+    → IfOk r (λ who. (own : List ℕ) × TakesOrder form o m who n own × (new ≡ old ++ own))
 taken_so (Err e) form o m n asks old new takes knows is text = tt
 taken_so (Ok who) form o m n asks old new takes knows is text =
     (asked_lines form o asks, inl (asks, takes, knows, is, refl), text)
@@ -57,15 +58,15 @@ done_so (Err e) f h = tt
 done_so (Ok a) f h = f a h
 
 -- the parts of an answer, one behind the other
-pub answered : {T E : Type 0} (r : Result T E) (form : Form) (o : NodeOrder) (s m t : Meeting) (who last : Option ℕ)
+pub answered : {T E : Type 0} (r : Result T E) (form : Form) (o : Asked) (s m t : Meeting) (who last : Option ℕ)
     (turns : List NodeTurn) (ps : List (Option Peer)) (own old first second new : List ℕ) → TakesAs form o s who m own
-    → HearsOut (policy_of form) o m turns t → last ≡ whom_last who turns → ps ≡ t.session.peers → first ≡ old ++ own
+    → HearsOut (policy_of form) o m turns t → last ≡ whom_last who turns → ps ≡ t.node.peers → first ≡ old ++ own
     → second ≡ first ++ turns_lines form turns → OnOk r (new ≡ second ++ states_behind form o last ps)
     → OnOk r ((more : List ℕ) × Answers form o s t more × (new ≡ old ++ more))
 answered (Err e) form o s m t who last turns ps own old first second new takes hears is stands one two three = tt
 answered (Ok v) form o s m t who last turns ps own old first second new takes hears is stands one two three =
     let lines = turns_lines form turns in
-    let states = states_behind form o (whom_last who turns) t.session.peers in
+    let states = states_behind form o (whom_last who turns) t.node.peers in
     let same : states_behind form o last ps ≡ states =
     ap (λ w. states_behind form o w ps) is ∙ ap (λ q. states_behind form o (whom_last who turns) q) stands in
     let joined : new ≡ ((old ++ own) ++ lines) ++ states =

@@ -4,21 +4,23 @@ use Rattle.std.specs.Fmt.{decimal}
 use Rattle.std.specs.List.{flat_map}
 use Rattle.std.specs.Option.{option_or}
 use Rattle.dm_machine.specs.declared.connection.Conn.{Conn}
-use Rattle.dm_node.specs.declared.fault.EventFault.{EventFault}
-use Rattle.dm_node.specs.declared.fault.EventFault.TheVariants as fault
+use Rattle.dm_node.specs.declared.fault.OrderFault.{OrderFault}
+use Rattle.dm_node.specs.declared.fault.OrderFault.TheVariants as fault
 use Rattle.dm_node.specs.Holding.{peer_at}
 use Rattle.dm_node.specs.Policies.{Policy, no_strangers, told_the_first}
 use Rattle.dm_peer.specs.declared.peer.Peer.{Peer}
-use Rattle.dm_node.specs.declared.node_order.NodeOrder.{NodeOrder}
-use Rattle.dm_node.specs.declared.node_order.NodeOrder.TheVariants as order
+use Rattle.dm_node.specs.declared.order.Order.{Order as NodeOrder}
+use Rattle.dm_node.specs.declared.order.Order.TheVariants as order
 use Rattle.dm_node.specs.NodeKnown.{KnownAfterOrder, NodeKnownBehind}
 use Rattle.dm_node.specs.NodeOrders.{NodeTakes, NodeRefuses}
-use Rattle.dm_node.specs.NodeStates.{NodeAnswer, NodeTurn, NodeTellsNext, NodeIsOut}
+use Rattle.dm_node.specs.NodeStates.{NodeAnswer, NodeTurn, NodeTellsNext, NodeIsOut, node_fed}
 use Rattle.dm_live.specs.AnswerLines.{action_lines, arrival_line, refusal_line, standing_words}
 use Rattle.dm_live.specs.declared.form.Form.{Form}
 use Rattle.dm_live.specs.declared.form.Form.TheVariants.{Alone, Several}
 use Rattle.dm_live.specs.Meetings.{Meeting}
-use Rattle.dm_live.specs.OrderLines.{Order, Accept, Octets, Reset, node_asked}
+use Rattle.dm_live.specs.OrderLines.{Order, Accept, Reset, order_asked}
+use Rattle.dm_live.specs.declared.asked.Asked.{Asked}
+use Rattle.dm_live.specs.declared.asked.Asked.TheVariants as asked
 
 -- what strangers send is told a peer that is alone; where there are several they are turned away
 abbrev pub policy_of : Form → Policy
@@ -29,7 +31,6 @@ policy_of Several = no_strangers
 -- Start's is there already
 unfoldable pub ignored_line : Order → List ℕ
 ignored_line (Accept c) = []
-ignored_line (Octets c piece) = []
 ignored_line Reset = []
 ignored_line o = codes "ignored" ++ 10 ∷ []
 
@@ -55,7 +56,7 @@ turns_lines form turns = flat_map (turn_lines form) turns
 
 -- what an order asks for
 abbrev pub asked_lines : Form → NodeOrder → Option NodeAnswer → List ℕ
-asked_lines form o None = ignored_line (node_asked o).order
+asked_lines form o None = ignored_line (order_asked o).order
 asked_lines form o (Some answer) = event_lines form answer
 
 -- whom it concerns: the one that was told the event, or that begins anew
@@ -65,37 +66,45 @@ whom_asked (order.Reset n) None = Some n
 whom_asked o None = None
 
 -- the neighbour that refuses an order; where nobody has the number that it names, none does
-abbrev pub refuser : NodeOrder → EventFault → Option ℕ
-refuser o (fault.Peer f) = (node_asked o).to
+abbrev pub refuser : NodeOrder → OrderFault → Option ℕ
+refuser o (fault.Peer f) = (order_asked o).to
 refuser o f = None
 
 -- why an order is refused
-unfoldable pub event_refusal_line : EventFault → List ℕ
+unfoldable pub event_refusal_line : OrderFault → List ℕ
 event_refusal_line fault.NoNeighbour = codes "refused NoNeighbour" ++ 10 ∷ []
-event_refusal_line fault.Held = codes "refused Held" ++ 10 ∷ []
 event_refusal_line (fault.Peer f) = refusal_line f
 
 -- an order is taken, it concerns this neighbour, if any, and this is printed of it
 abbrev pub TakesSo : Form → NodeOrder → Meeting → Option ℕ → Meeting → List ℕ → Type 0
 TakesSo form o m who n text =
-    (asks : Option NodeAnswer) × NodeTakes o m.session asks n.session
-    × KnownAfterOrder asks m.session n.session m.known n.known × (who ≡ whom_asked o asks)
+    (asks : Option NodeAnswer) × NodeTakes o m.node asks n.node
+    × KnownAfterOrder asks m.node n.node m.known n.known × (who ≡ whom_asked o asks)
     × (text ≡ asked_lines form o asks)
 
 -- or it is refused, and nothing changes
 abbrev pub RefusesSo : Form → NodeOrder → Meeting → Option ℕ → Meeting → List ℕ → Type 0
 RefusesSo form o m who n text =
-    (f : EventFault) × NodeRefuses o m.session f × (n ≡ m) × (who ≡ refuser o f)
+    (f : OrderFault) × NodeRefuses o m.node f × (n ≡ m) × (who ≡ refuser o f)
     × (text ≡ neighbour_line form (refuser o f) ++ event_refusal_line f)
 
-abbrev pub TakesAs : Form → NodeOrder → Meeting → Option ℕ → Meeting → List ℕ → Type 0
-TakesAs form o m who n text = TakesSo form o m who n text ⊎ RefusesSo form o m who n text
+abbrev pub TakesOrder : Form → NodeOrder → Meeting → Option ℕ → Meeting → List ℕ → Type 0
+TakesOrder form o m who n text = TakesSo form o m who n text ⊎ RefusesSo form o m who n text
+
+-- a piece is kept, it concerns nobody yet, and nothing is printed of that
+abbrev pub KeepsSo : Conn → List ℕ → Meeting → Option ℕ → Meeting → List ℕ → Type 0
+KeepsSo c piece m who n text =
+    (n.node ≡ node_fed c piece m.node) × (n.known ≡ m.known) × (who ≡ None) × (text ≡ [])
+
+abbrev pub TakesAs : Form → Asked → Meeting → Option ℕ → Meeting → List ℕ → Type 0
+TakesAs form (asked.Order o) m who n text = TakesOrder form o m who n text
+TakesAs form (asked.Piece c piece) m who n text = KeepsSo c piece.now m who n text
 
 -- one turn of connection c, and whom it met
 abbrev pub MeetsNext : Policy → Conn → Meeting → NodeTurn → Meeting → Type 0
 MeetsNext policy c m turn n =
-    NodeTellsNext policy c m.session turn n.session
-    × NodeKnownBehind c m.session turn n.session m.known n.known
+    NodeTellsNext policy c m.node turn n.node
+    × NodeKnownBehind c m.node turn n.node m.known n.known
 
 -- turn by turn
 abbrev pub MeetsAlong : Policy → Conn → Meeting → List NodeTurn → Meeting → Type 0
@@ -105,12 +114,12 @@ MeetsAlong policy c m (turn ∷ turns) n =
 
 -- what came on connection c is told turn by turn until nothing is left to tell
 abbrev pub MeetsOut : Policy → Conn → Meeting → List NodeTurn → Meeting → Type 0
-MeetsOut policy c m turns n = MeetsAlong policy c m turns n × NodeIsOut c n.session
+MeetsOut policy c m turns n = MeetsAlong policy c m turns n × NodeIsOut c n.node
 
--- behind octets what came is told, behind another order nothing
-abbrev pub HearsOut : Policy → NodeOrder → Meeting → List NodeTurn → Meeting → Type 0
-HearsOut policy (order.Octets c piece) m turns n = MeetsOut policy c m turns n
-HearsOut policy o m turns n = (turns ≡ []) × (n ≡ m)
+-- behind a piece what came is told, behind an order nothing
+abbrev pub HearsOut : Policy → Asked → Meeting → List NodeTurn → Meeting → Type 0
+HearsOut policy (asked.Piece c piece) m turns n = MeetsOut policy c m turns n
+HearsOut policy (asked.Order o) m turns n = (turns ≡ []) × (n ≡ m)
 
 -- whom the last one concerned that concerned a neighbour, an order and then turns
 abbrev pub whom_last : Option ℕ → List NodeTurn → Option ℕ
@@ -134,22 +143,22 @@ concerned_state_line None ps = []
 concerned_state_line (Some i) ps = state_line Several i (peer_at ps i)
 
 -- how several stand behind an order that concerned all, or the one that it concerned last
-abbrev pub several_states : NodeOrder → Option ℕ → List (Option Peer) → List ℕ
-several_states order.ResetAll who ps = states_lines 0 ps
+abbrev pub several_states : Asked → Option ℕ → List (Option Peer) → List ℕ
+several_states (asked.Order order.ResetAll) who ps = states_lines 0 ps
 several_states o who ps = concerned_state_line who ps
 
 -- behind each order a peer alone is told
-abbrev pub states_behind : Form → NodeOrder → Option ℕ → List (Option Peer) → List ℕ
+abbrev pub states_behind : Form → Asked → Option ℕ → List (Option Peer) → List ℕ
 states_behind Alone o who ps = state_line Alone 0 (peer_at ps 0)
 states_behind Several o who ps = several_states o who ps
 
--- an order, what it makes of a session and of whom each neighbour met, and its answer: what it comes to itself, what
+-- what is asked, what it makes of a node and of whom each neighbour met, and its answer: what it comes to itself, what
 -- came on its connection, and how whom that concerned last stands then
-pub record Answers (form : Form) (o : NodeOrder) (m n : Meeting) (text : List ℕ) : Type 0 where
+pub record Answers (form : Form) (o : Asked) (m n : Meeting) (text : List ℕ) : Type 0 where
   pub between : Meeting
   pub who : Option ℕ
   pub own : List ℕ
   pub turns : List NodeTurn
   pub takes : TakesAs form o m who between own
   pub hears : HearsOut (policy_of form) o between turns n
-  pub whole : text ≡ own ++ turns_lines form turns ++ states_behind form o (whom_last who turns) n.session.peers
+  pub whole : text ≡ own ++ turns_lines form turns ++ states_behind form o (whom_last who turns) n.node.peers

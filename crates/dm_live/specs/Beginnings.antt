@@ -136,7 +136,7 @@ AreNewFor s [] ps = ps ≡ []
 AreNewFor s (host ∷ hosts) ps =
     (p : Peer) × (qs : List (Option Peer)) × (ps ≡ Some p ∷ qs) × IsNewFor s host p × AreNewFor s hosts qs
 
--- the session of their node with closed neighbours of these hosts, without connections
+-- their node with closed neighbours of these hosts, without connections
 pub record BeginsForHosts (s : Settings) (hosts : List (List ℕ)) (t : NodeState) : Type 0 where
   pub node : IsNodeOf s t.node
   pub peers : AreNewFor s hosts t.peers
@@ -148,9 +148,9 @@ pub record BeginsForHosts (s : Settings) (hosts : List (List ℕ)) (t : NodeStat
 abbrev pub AreUnmet : List (Option Acquaintance) → Type 0
 AreUnmet known = AllByRecursion (λ k. k ≡ Some nobody) known
 
--- what the settings begin: the session of their node with its peers, which met nobody yet
+-- what the settings begin: their node with its peers, which met nobody yet
 pub record Begins (s : Settings) (m : Meeting) : Type 0 where
-  pub session : BeginsForHosts s s.peers m.session
+  pub node : BeginsForHosts s s.peers m.node
   pub unmet : AreUnmet m.known
 
 -- they tell one peer alone, or several

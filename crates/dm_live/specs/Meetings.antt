@@ -1,4 +1,4 @@
--- A node's session beside whom each neighbour met.
+-- A node beside whom each neighbour met.
 use Rattle.std.specs.Prelude.{Option, List}
 use Rattle.dm_slots.specs.Acquaintances.{Acquaintance}
 use Rattle.dm_node.specs.declared.node.Node as declared
@@ -6,9 +6,9 @@ use Rattle.dm_node.specs.NodeSeen.{node_state_of, node_known_of}
 use Rattle.dm_node.specs.NodeStates.{NodeState}
 
 pub record Meeting : Type 0 where
-  pub session : NodeState
+  pub node : NodeState
   pub known : List (Option Acquaintance)
 
 -- one that runs, as definitions see it
 abbrev pub meeting_of : declared.Node → Meeting
-meeting_of s = record { session = node_state_of s; known = node_known_of s }
+meeting_of s = record { node = node_state_of s; known = node_known_of s }

@@ -6,8 +6,10 @@ use Rattle.dm_text.specs.Hexadecimal.{word_octets}
 use Rattle.dm_base.specs.Built.{cause_number}
 use Rattle.dm_machine.specs.declared.connection.Conn.{Conn}
 use Rattle.dm_base.specs.declared.kind.Cause.{Cause}
-use Rattle.dm_node.specs.declared.node_order.NodeOrder.{NodeOrder}
-use Rattle.dm_node.specs.declared.node_order.NodeOrder.TheVariants as order
+use Rattle.dm_node.specs.declared.order.Order.{Order as NodeOrder}
+use Rattle.dm_node.specs.declared.order.Order.TheVariants as order
+use Rattle.dm_live.specs.declared.asked.Asked.{Asked}
+use Rattle.dm_live.specs.declared.asked.Asked.TheVariants as asked
 use Rattle.dm_live.specs.declared.form.Form.{Form}
 use Rattle.dm_live.specs.declared.form.Form.TheVariants.{Alone, Several}
 use Rattle.dm_live.specs.declared.order_line.OrderLine.{OrderLine}
@@ -89,19 +91,22 @@ to_neighbour n o = record { to = Some n; order = o }
 abbrev pub to_node : Order → AskedOfNode
 to_node o = record { to = None; order = o }
 
-abbrev pub node_asked : NodeOrder → AskedOfNode
-node_asked (order.Start n c) = to_neighbour n (StartOrder c)
-node_asked (order.Ack c) = to_node (AckOrder c)
-node_asked (order.Nack c) = to_node (NackOrder c)
-node_asked (order.Accept c) = to_node (Accept c)
-node_asked (order.Octets c piece) = to_node (Octets c piece.now)
-node_asked (order.Gone c) = to_node (GoneOrder c)
-node_asked (order.Timeout n) = to_neighbour n TimeoutOrder
-node_asked (order.Tick n) = to_neighbour n TickOrder
-node_asked (order.Stop n cause) = to_neighbour n (StopOrder cause)
-node_asked (order.Submit n octets) = to_neighbour n (SubmitOrder octets.now)
-node_asked (order.Reset n) = to_neighbour n Reset
-node_asked order.ResetAll = to_node Reset
+abbrev pub order_asked : NodeOrder → AskedOfNode
+order_asked (order.Start n c) = to_neighbour n (StartOrder c)
+order_asked (order.Ack c) = to_node (AckOrder c)
+order_asked (order.Nack c) = to_node (NackOrder c)
+order_asked (order.Accept c) = to_node (Accept c)
+order_asked (order.Gone c) = to_node (GoneOrder c)
+order_asked (order.Timeout n) = to_neighbour n TimeoutOrder
+order_asked (order.Tick n) = to_neighbour n TickOrder
+order_asked (order.Stop n cause) = to_neighbour n (StopOrder cause)
+order_asked (order.Submit n octets) = to_neighbour n (SubmitOrder octets.now)
+order_asked (order.Reset n) = to_neighbour n Reset
+order_asked order.ResetAll = to_node Reset
+
+abbrev pub node_asked : Asked → AskedOfNode
+node_asked (asked.Order o) = order_asked o
+node_asked (asked.Piece c piece) = to_node (Octets c piece.now)
 
 -- the order that a line told
 abbrev pub told_order : OrderLine → AskedOfNode

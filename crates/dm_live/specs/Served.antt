@@ -4,7 +4,7 @@ use Rattle.std.specs.Fmt.{decimal}
 use Rattle.std.specs.Io.KnownBytes.{Appends}
 use Rattle.std.specs.Str.Lines.{lines}
 use Rattle.dm_text.specs.Words.{words}
-use Rattle.dm_node.specs.declared.node_order.NodeOrder.{NodeOrder}
+use Rattle.dm_live.specs.declared.asked.Asked.{Asked}
 use Rattle.dm_live.specs.declared.fault.LiveFault.{LiveFault}
 use Rattle.dm_live.specs.declared.fault.LiveFault.TheVariants.{Write}
 use Rattle.dm_node.specs.NodeKnown.{acquaintance_at}
@@ -16,7 +16,7 @@ use Rattle.dm_live.specs.OrderLines.{node_asked, TellsOrder}
 use Rattle.dm_live.specs.SenderLines.{IsSender, sender_answer}
 use Rattle.dm_live.specs.Settings.{Settings, no_settings, TellsSetting}
 
--- a run behind some of its lines: what the configuration says so far, or the session with whom each neighbour met, and
+-- a run behind some of its lines: what the configuration says so far, or the node with whom each neighbour met, and
 -- how many peers its lines are about
 pub data Stage : Type 0 where
   Drafting : Settings → Stage
@@ -43,11 +43,11 @@ abbrev pub GoesNot : ℕ → List ℕ → Settings → Settings → List ℕ →
 GoesNot n line s t text =
     (name : List ℕ) × IsGo line × (go_fault s ≡ Some name) × (t ≡ s) × (text ≡ fault_answer n name)
 
--- its answer where it begins a session
+-- its answer where it begins a node
 abbrev pub ready_answer : List ℕ
 ready_answer = with_dot (codes "ready" ++ 10 ∷ [])
 
--- it begins the session
+-- it begins the node
 pub record Goes (line : List ℕ) (s : Settings) (form : Form) (m : Meeting) (text : List ℕ) : Type 0 where
   pub go : IsGo line
   pub good : go_fault s ≡ None
@@ -67,7 +67,7 @@ SaysNothing n line s t text =
 -- an order is told and answered
 abbrev pub IsTold : Form → List ℕ → Meeting → Meeting → List ℕ → Type 0
 IsTold form line m n text =
-    (o : NodeOrder) × (answer : List ℕ) × TellsOrder form (node_asked o) line × Answers form o m n answer
+    (o : Asked) × (answer : List ℕ) × TellsOrder form (node_asked o) line × Answers form o m n answer
     × (text ≡ with_dot answer)
 
 -- whom a neighbour met is answered, and nothing changes
@@ -78,10 +78,10 @@ AsksSender form line m n text =
 -- a line that tells neither changes nothing
 abbrev pub TellsNone : ℕ → Form → List ℕ → Meeting → Meeting → List ℕ → Type 0
 TellsNone number form line m n text =
-    ((i : ℕ) → IsSender form i line → ⊥) × ((o : NodeOrder) → TellsOrder form (node_asked o) line → ⊥) × (n ≡ m)
+    ((i : ℕ) → IsSender form i line → ⊥) × ((o : Asked) → TellsOrder form (node_asked o) line → ⊥) × (n ≡ m)
     × (text ≡ bad_answer number)
 
--- the line of this number before the session begins, if it doesn't begin it
+-- the line of this number before the node begins, if it doesn't begin it
 abbrev pub AnswersSetting : ℕ → List ℕ → Settings → Settings → List ℕ → Type 0
 AnswersSetting n line s t text = IsSet line s t text ⊎ SaysNothing n line s t text
 

@@ -4,55 +4,78 @@ ghost use Rattle.std.specs.Option.{option_or};
 ghost use Rattle.std.specs.String.{string_bytes};
 ghost use Rattle.dm_node.specs.NodeStates.{NodeTurn as OneTurn, NodeIsOut};
 ghost use Rattle.dm_node.specs.Answers.{asks_of, turn_in};
-ghost use Rattle.dm_live.specs.Answers.{TakesAs, MeetsNext, MeetsOut, HearsOut, Answers};
+ghost use Rattle.dm_live.specs.Answers.{TakesOrder, TakesAs, MeetsNext, MeetsOut, HearsOut, Answers};
 ghost use Rattle.dm_live.specs.Answers.{asked_lines, turn_lines, turns_lines, whom_asked, whom_last};
 ghost use Rattle.dm_live.specs.Answers.{refuser, policy_of};
 ghost use Rattle.dm_live.specs.Meetings.{meeting_of};
-ghost use Rattle.dm_live.specs.OrderLines.{node_asked};
+ghost use Rattle.dm_live.specs.OrderLines.{order_asked};
 
 use crate::answer_lines::{
     put_event, put_event_refusal, put_neighbour, put_states_behind, put_turn, put_untold,
 };
+use crate::asked::Asked;
 use crate::form::Form;
 use dm_machine::Conn;
-use dm_node::{Alone, Answer, EventFault, Node, NodeOrder, Told};
+use dm_node::{Alone, Answer, Node, Order, OrderFault, Told};
 use std::alloc::{AllocError, Global};
 
-/// Tells the session the order, of so many peers, and appends the order's answer.
+/// Tells the node, of so many peers, what a line asks of it, and appends the line's answer.
 ///
-/// Behind octets all that came on the connection is told, message by message. Where memory is wanted some of it may be
+/// Behind a piece all that came on its connection is told, message by message. Where memory is wanted some of it may be
 /// told, and a front of the answer may stand in the text.
 pub fn answer_order(
     alloc: Global,
     form: Form,
-    session: &mut Node,
-    order: NodeOrder<'_>,
+    node: &mut Node,
+    asked: Asked<'_>,
     answer: &mut Answer,
     text: &mut String,
 ) -> Result<(), AllocError>
     ensures { OnOk result ((more : List ℕ)
-        × Answers form order.entry (meeting_of session.old) (meeting_of session.new) more
+        × Answers form asked.entry (meeting_of node.old) (meeting_of node.new) more
         × (string_bytes text.new ≡ string_bytes text.old ++ more)) }
 {
-    let who = take_order(alloc, form, session, order, answer, text)?;
-    let last = hear_behind(alloc, form, session, order, who, answer, text)?;
-    put_states_behind(text, form, session, order, last)
+    let who = take_asked(alloc, form, node, asked, answer, text)?;
+    let last = tell_behind(alloc, form, node, asked, who, answer, text)?;
+    put_states_behind(text, form, node, asked, last)
 }
 
-/// Appends what an order comes to by itself, and answers whom it concerns.
-fn take_order(
+/// Appends what is asked comes to by itself, and answers whom it concerns. A piece is kept.
+fn take_asked(
     alloc: Global,
     form: Form,
-    session: &mut Node,
-    order: NodeOrder<'_>,
+    node: &mut Node,
+    asked: Asked<'_>,
     answer: &mut Answer,
     text: &mut String,
 ) -> Result<Option<usize>, AllocError>
     ensures { IfOk result (λ who. (own : List ℕ)
-        × TakesAs form order.entry (meeting_of session.old) who (meeting_of session.new) own
+        × TakesAs form asked.entry (meeting_of node.old) who (meeting_of node.new) own
         × (string_bytes text.new ≡ string_bytes text.old ++ own)) }
 {
-    match session.order(alloc, order, answer) {
+    match asked {
+        Asked::Order(order) => take_order(alloc, form, node, order, answer, text),
+        Asked::Piece(conn, piece) => {
+            node.keep(conn, piece)?;
+            Ok(None)
+        }
+    }
+}
+
+/// Appends what an order comes to, and answers whom it concerns.
+fn take_order(
+    alloc: Global,
+    form: Form,
+    node: &mut Node,
+    order: Order<'_>,
+    answer: &mut Answer,
+    text: &mut String,
+) -> Result<Option<usize>, AllocError>
+    ensures { IfOk result (λ who. (own : List ℕ)
+        × TakesOrder form order.entry (meeting_of node.old) who (meeting_of node.new) own
+        × (string_bytes text.new ≡ string_bytes text.old ++ own)) }
+{
+    match node.order(alloc, order, answer) {
         Ok(()) => put_asked(text, form, order, answer),
         Err(fault) => {
             let who = refused_by(order, fault);
@@ -67,7 +90,7 @@ fn take_order(
 fn put_asked(
     text: &mut String,
     form: Form,
-    order: NodeOrder<'_>,
+    order: Order<'_>,
     answer: &Answer,
 ) -> Result<Option<usize>, AllocError>
     ensures who { IfOk result (λ who. who ≡ whom_asked order.entry (asks_of answer.now)) }
@@ -87,81 +110,81 @@ fn put_asked(
 }
 
 /// The neighbour that an order has begin anew, if it is such an order.
-fn set_back_by(order: NodeOrder<'_>) -> Option<usize>
+fn set_back_by(order: Order<'_>) -> Option<usize>
     ensures { result ≡ whom_asked order.entry None }
 {
     match order {
-        NodeOrder::Reset(index) => Some(index),
+        Order::Reset(index) => Some(index),
         _ => None,
     }
 }
 
 /// The neighbour that refuses an order with this fault; where nobody has the number that it names, none does.
-fn refused_by(order: NodeOrder<'_>, fault: EventFault) -> Option<usize>
+fn refused_by(order: Order<'_>, fault: OrderFault) -> Option<usize>
     ensures { result ≡ refuser order.entry fault }
 {
     match fault {
-        EventFault::Peer(_) => named_by(order),
-        EventFault::NoNeighbour | EventFault::Held => None,
+        OrderFault::Peer(_) => named_by(order),
+        OrderFault::NoNeighbour => None,
     }
 }
 
 /// The number of the neighbour that an order names, if it names one.
-fn named_by(order: NodeOrder<'_>) -> Option<usize>
-    ensures { result ≡ (node_asked order.entry).to }
+fn named_by(order: Order<'_>) -> Option<usize>
+    ensures { result ≡ (order_asked order.entry).to }
 {
     match order {
-        NodeOrder::Start(index, _)
-        | NodeOrder::Timeout(index)
-        | NodeOrder::Tick(index)
-        | NodeOrder::Stop(index, _)
-        | NodeOrder::Submit(index, _)
-        | NodeOrder::Reset(index) => Some(index),
+        Order::Start(index, _)
+        | Order::Timeout(index)
+        | Order::Tick(index)
+        | Order::Stop(index, _)
+        | Order::Submit(index, _)
+        | Order::Reset(index) => Some(index),
         _ => None,
     }
 }
 
-/// Tells what came on the connection of octets, and appends what that comes to; behind another order nothing. Answers
-/// whom it concerned last, `who` where nobody.
-fn hear_behind(
+/// Tells what came on the connection of a piece, and appends what that comes to; behind an order nothing. Answers whom
+/// it concerned last, `who` where nobody.
+fn tell_behind(
     alloc: Global,
     form: Form,
-    session: &mut Node,
-    order: NodeOrder<'_>,
+    node: &mut Node,
+    asked: Asked<'_>,
     who: Option<usize>,
     answer: &mut Answer,
     text: &mut String,
 ) -> Result<Option<usize>, AllocError>
     ensures { IfOk result (λ last. (turns : List OneTurn)
-        × HearsOut (policy_of form) order.entry (meeting_of session.old) turns (meeting_of session.new)
+        × HearsOut (policy_of form) asked.entry (meeting_of node.old) turns (meeting_of node.new)
         × (last ≡ whom_last who turns)
         × (string_bytes text.new ≡ string_bytes text.old ++ turns_lines form turns)) }
 {
-    match order {
-        NodeOrder::Octets(conn, _) => hear_out(alloc, form, session, conn, who, answer, text),
-        _ => Ok(who),
+    match asked {
+        Asked::Piece(conn, _) => tell_out(alloc, form, node, conn, who, answer, text),
+        Asked::Order(_) => Ok(who),
     }
 }
 
 /// Tells all that came on the connection, and appends what that comes to. Answers whom it concerned last, `who` where
 /// nobody.
-fn hear_out(
+fn tell_out(
     alloc: Global,
     form: Form,
-    session: &mut Node,
+    node: &mut Node,
     conn: Conn,
     who: Option<usize>,
     answer: &mut Answer,
     text: &mut String,
 ) -> Result<Option<usize>, AllocError>
     ensures { IfOk result (λ last. (turns : List OneTurn)
-        × MeetsOut (policy_of form) conn (meeting_of session.old) turns (meeting_of session.new)
+        × MeetsOut (policy_of form) conn (meeting_of node.old) turns (meeting_of node.new)
         × (last ≡ whom_last who turns)
         × (string_bytes text.new ≡ string_bytes text.old ++ turns_lines form turns)) }
 {
     let mut last = who;
     'turn: for _ in 0..u64::MAX {
-        if !hear_next(alloc, form, session, conn, &mut last, answer, text)? {
+        if !tell_next(alloc, form, node, conn, &mut last, answer, text)? {
             return Ok(last);
         }
     }
@@ -171,24 +194,24 @@ fn hear_out(
 
 /// Tells the next message that came on the connection, or a fault, and appends what that comes to; `last` is whom it
 /// concerned, where it concerned anybody. False where there is none.
-fn hear_next(
+fn tell_next(
     alloc: Global,
     form: Form,
-    session: &mut Node,
+    node: &mut Node,
     conn: Conn,
     last: &mut Option<usize>,
     answer: &mut Answer,
     text: &mut String,
 ) -> Result<bool, AllocError>
     ensures told { IfOk result (λ more. more ≡ true → (turn : OneTurn)
-        × MeetsNext (policy_of form) conn (meeting_of session.old) turn (meeting_of session.new)
+        × MeetsNext (policy_of form) conn (meeting_of node.old) turn (meeting_of node.new)
         × (last.new ≡ option_or turn.answer.neighbour last.old)
         × (string_bytes text.new ≡ string_bytes text.old ++ turn_lines form turn)) }
-    ensures out { IfOk result (λ more. more ≡ false → NodeIsOut conn (meeting_of session.new).session
-        × (meeting_of session.new ≡ meeting_of session.old) × (last.new ≡ last.old)
+    ensures out { IfOk result (λ more. more ≡ false → NodeIsOut conn (meeting_of node.new).node
+        × (meeting_of node.new ≡ meeting_of node.old) × (last.new ≡ last.old)
         × (string_bytes text.new ≡ string_bytes text.old)) }
 {
-    match next_turn(alloc, form, session, conn, answer) {
+    match next_turn(alloc, form, node, conn, answer) {
         Ok(()) => put_heard(text, form, conn, last, answer),
         Err(error) => Err(error),
     }
@@ -224,19 +247,19 @@ fn put_heard(
 fn next_turn(
     alloc: Global,
     form: Form,
-    session: &mut Node,
+    node: &mut Node,
     conn: Conn,
     answer: &mut Answer,
 ) -> Result<(), AllocError>
     ensures told { OnOk result (IfSome (turn_in conn answer.new) (λ turn. MeetsNext (policy_of form) conn
-        (meeting_of session.old) turn (meeting_of session.new))) }
-    ensures out { OnOk result (IfNone (turn_in conn answer.new) (NodeIsOut conn (meeting_of session.old).session
-        × ((meeting_of session.new).session ≡ (meeting_of session.old).session))) }
+        (meeting_of node.old) turn (meeting_of node.new))) }
+    ensures out { OnOk result (IfNone (turn_in conn answer.new) (NodeIsOut conn (meeting_of node.old).node
+        × ((meeting_of node.new).node ≡ (meeting_of node.old).node))) }
     ensures unmet { OnOk result (IfNone (turn_in conn answer.new) (
-        (meeting_of session.new).known ≡ (meeting_of session.old).known)) }
+        (meeting_of node.new).known ≡ (meeting_of node.old).known)) }
 {
     match form {
-        Form::Alone => session.next(alloc, &Alone, conn, answer),
-        Form::Several => session.next(alloc, &(), conn, answer),
+        Form::Alone => node.next(alloc, &Alone, conn, answer),
+        Form::Several => node.next(alloc, &(), conn, answer),
     }
 }

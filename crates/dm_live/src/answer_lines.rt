@@ -5,21 +5,22 @@ ghost use Rattle.std.specs.String.{string_bytes};
 ghost use Rattle.hex.specs.Hex.{encode_lower};
 ghost use Rattle.dm_live.specs.AnswerLines.{action_line, action_lines, arrival_line, refusal_line};
 ghost use Rattle.dm_node.specs.Holding.{peer_at};
-ghost use Rattle.dm_node.specs.declared.fault.EventFault.TheVariants as faults;
+ghost use Rattle.dm_node.specs.declared.fault.OrderFault.TheVariants as faults;
 ghost use Rattle.dm_peer.specs.declared.fault.PeerFault.TheVariants as peer_faults;
 ghost use Rattle.dm_node.specs.NodeSeen.{node_state_of};
 ghost use Rattle.dm_node.specs.Answers.{as_answer, turn_in};
 ghost use Rattle.dm_node.specs.declared.answer.Told.TheVariants.{Message};
 ghost use Rattle.dm_live.specs.Answers.{ignored_line, neighbour_line, event_lines, turn_lines, event_refusal_line};
 ghost use Rattle.dm_live.specs.Answers.{state_line, states_lines, concerned_state_line, states_behind};
-ghost use Rattle.dm_live.specs.OrderLines.{node_asked};
+ghost use Rattle.dm_live.specs.OrderLines.{order_asked};
 ghost use Rattle.dm_live.specs.Served.{fault_answer};
 ghost use Rattle.dm_live.specs.AnswerLines.{held_words, standing_words};
 
+use crate::asked::Asked;
 use crate::form::Form;
 use crate::line_ends::{end_with_number, end_with_octets};
 use dm_machine::Conn;
-use dm_node::{Answer, EventFault, Node, NodeOrder, Told};
+use dm_node::{Answer, Node, Order, OrderFault, Told};
 use dm_peer::{Action, Peer, PeerFault};
 use dm_text::put_decimal;
 use std::alloc::AllocError;
@@ -161,29 +162,25 @@ pub(crate) fn put_turn(
 
 /// Appends that an order told no event, where it is one of those that tell one.
 #[tactic(auto, unfolding(crate::specs::Answers::ignored_line))]
-pub(crate) fn put_untold(text: &mut String, order: NodeOrder<'_>) -> Result<(), AllocError>
+pub(crate) fn put_untold(text: &mut String, order: Order<'_>) -> Result<(), AllocError>
     ensures { OnOk result (string_bytes text.new
-        ≡ string_bytes text.old ++ ignored_line (node_asked order.entry).order) }
+        ≡ string_bytes text.old ++ ignored_line (order_asked order.entry).order) }
 {
     match order {
-        NodeOrder::Accept(_)
-        | NodeOrder::Octets(_, _)
-        | NodeOrder::Reset(_)
-        | NodeOrder::ResetAll => Ok(()),
+        Order::Accept(_) | Order::Reset(_) | Order::ResetAll => Ok(()),
         _ => text.push_str("ignored\n"),
     }
 }
 
 /// Appends why an order was refused. Want of memory has no words, and is answered as such.
 #[tactic(auto, unfolding(crate::specs::Answers::event_refusal_line))]
-pub(crate) fn put_event_refusal(text: &mut String, fault: EventFault) -> Result<(), AllocError>
+pub(crate) fn put_event_refusal(text: &mut String, fault: OrderFault) -> Result<(), AllocError>
     ensures words { OnOk result (string_bytes text.new ≡ string_bytes text.old ++ event_refusal_line fault) }
     ensures known { OnOk result (fault ≢ faults.Peer peer_faults.NoMemory) }
 {
     match fault {
-        EventFault::NoNeighbour => text.push_str("refused NoNeighbour\n"),
-        EventFault::Held => text.push_str("refused Held\n"),
-        EventFault::Peer(fault) => put_refusal(text, fault),
+        OrderFault::NoNeighbour => text.push_str("refused NoNeighbour\n"),
+        OrderFault::Peer(fault) => put_refusal(text, fault),
     }
 }
 
@@ -250,21 +247,24 @@ fn put_state_alone(text: &mut String, node: &Node) -> Result<(), AllocError>
     }
 }
 
-/// Appends how each of several stands behind an order that concerned all, or else the one that it concerned last; and
+/// Appends how each of several stands behind an order that concerned all, or else the one that was concerned last; and
 /// how a peer stands that is alone, behind each order.
 pub(crate) fn put_states_behind(
     text: &mut String,
     form: Form,
     node: &Node,
-    order: NodeOrder<'_>,
+    asked: Asked<'_>,
     last: Option<usize>,
 ) -> Result<(), AllocError>
     ensures { OnOk result (string_bytes text.new
-        ≡ string_bytes text.old ++ states_behind form order.entry last (node_state_of node.now).peers) }
+        ≡ string_bytes text.old ++ states_behind form asked.entry last (node_state_of node.now).peers) }
 {
-    match (form, order) {
+    match (form, asked) {
         (Form::Alone, _) => put_state_alone(text, node),
-        (Form::Several, NodeOrder::ResetAll) => put_all_states(text, node.iter().as_slice()),
+        (Form::Several, Asked::Order(Order::ResetAll)) => put_all_states(
+            text,
+            node.iter().as_slice(),
+        ),
         (Form::Several, _) => put_state_at(text, node, last),
     }
 }

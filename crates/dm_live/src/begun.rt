@@ -1,4 +1,4 @@
-//! The session that a configuration begins.
+//! The node that a configuration begins.
 ghost use Rattle.std.specs.Prelude.{◌≡◌, ◌++◌, ℕ, List, None, IfOk, OnOk};
 ghost use Rattle.std.specs.String.{string_bytes};
 ghost use Rattle.dm_peer.specs.Hosts.{config_fault};
@@ -10,12 +10,12 @@ ghost use Rattle.dm_live.specs.Stages.{IsBegun};
 use crate::answer_lines::put_fault;
 use crate::draft::Draft;
 use crate::form::Form;
-use crate::peers::node_session;
+use crate::peers::node_told;
 use dm_node::Node;
 use dm_peer::Config;
 use std::alloc::{AllocError, Global};
 
-/// The session that runs, if one does.
+/// The node that runs, if one does.
 #[derive(Drop)]
 pub(crate) enum Begun {
     Nothing,
@@ -45,7 +45,7 @@ pub(crate) fn begin(
         × (string_bytes text.new ≡ string_bytes text.old ++ answer)) }
 {
     match draft.config(alloc)? {
-        Ok(config) => begin_session(alloc, draft, config, number, text),
+        Ok(config) => begin_node(alloc, draft, config, number, text),
         Err(name) => begin_nothing(number, name, text),
     }
 }
@@ -59,8 +59,8 @@ fn begin_nothing(number: u64, name: &str, text: &mut String) -> Result<Begun, Al
     Ok(Begun::Nothing)
 }
 
-/// The session of the node with its peers, or nothing, where one can't be had; and appends which of the two.
-fn begin_session(
+/// The node with its peers, or nothing, where one can't be had; and appends which of the two.
+fn begin_node(
     alloc: Global,
     draft: &Draft,
     config: Config,
@@ -73,12 +73,12 @@ fn begin_session(
     ensures { IfOk result (λ begun. (answer : List ℕ) × IsBegun number (settings_of draft.now) begun answer
         × (string_bytes text.new ≡ string_bytes text.old ++ answer)) }
 {
-    let made = node_session(alloc, draft, &config);
+    let made = node_told(alloc, draft, &config);
     drop(config);
     match made? {
-        Ok(session) => text
+        Ok(node) => text
             .push_str("ready\n.\n")
-            .and(Ok(Begun::Running(form_of(draft), session))),
+            .and(Ok(Begun::Running(form_of(draft), node))),
         Err(name) => begin_nothing(number, name, text),
     }
 }

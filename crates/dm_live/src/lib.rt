@@ -3,6 +3,7 @@
 
 mod answer;
 mod answer_lines;
+mod asked;
 mod begun;
 mod draft;
 mod fault;
@@ -22,6 +23,7 @@ mod setting_name;
 mod setting_words;
 
 pub use crate::answer::answer_order;
+pub use crate::asked::Asked;
 pub use crate::fault::LiveFault;
 pub use crate::form::Form;
 pub use crate::input::next_line;

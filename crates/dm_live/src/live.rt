@@ -20,7 +20,7 @@ use dm_text::Words;
 use std::alloc::{AllocError, Global};
 use std::mem;
 
-/// What the configuration says so far, and the session behind its `go`.
+/// What the configuration says so far, and the node behind its `go`.
 #[derive(Drop)]
 pub(crate) struct Live {
     draft: Draft,
@@ -53,19 +53,19 @@ impl Live {
             × AnswersLine number line.now (stage_of self.old) (stage_of self.new) answer
             × (string_bytes text.new ≡ string_bytes text.old ++ answer)) }
     {
-        if let Begun::Running(form, session) = &mut self.begun {
-            return answer_told(alloc, *form, session, &mut self.answer, number, line, text);
+        if let Begun::Running(form, node) = &mut self.begun {
+            return answer_told(alloc, *form, node, &mut self.answer, number, line, text);
         }
         if is_go(line) {
             let begun = begin(alloc, &self.draft, number, text)?;
-            self.put_begun(begun);
+            self.set_begun(begun);
             return Ok(());
         }
         answer_setting(&mut self.draft, number, line, text)
     }
 
-    /// Goes on with this session. It takes no memory.
-    fn put_begun(&mut self, begun: Begun)
+    /// Goes on with this node. It takes no memory.
+    fn set_begun(&mut self, begun: Begun)
         ensures draft { self.new.draft ≡ self.old.draft }
         ensures begun { self.new.begun ≡ begun }
     {
@@ -108,23 +108,23 @@ fn answer_setting(
 fn answer_told(
     alloc: Global,
     form: Form,
-    session: &mut Node,
+    node: &mut Node,
     answer: &mut Answer,
     number: u64,
     line: &[u8],
     text: &mut String,
 ) -> Result<(), AllocError>
     ensures { OnOk result ((answer : List ℕ)
-        × AnswersOrder number form line.now (meeting_of session.old) (meeting_of session.new) answer
+        × AnswersOrder number form line.now (meeting_of node.old) (meeting_of node.new) answer
         × (string_bytes text.new ≡ string_bytes text.old ++ answer)) }
 {
     if let Some(index) = read_sender(form, line) {
-        put_sender_at(alloc, text, session.known(index))?;
+        put_sender_at(alloc, text, node.known(index))?;
         return text.push_str(".\n");
     }
     match read_order(alloc, form, line)? {
         Some(order) => {
-            answer_order(alloc, form, session, order.order(), answer, text)?;
+            answer_order(alloc, form, node, order.asked(), answer, text)?;
             text.push_str(".\n")
         }
         None => put_fault(text, number, "Syntax"),

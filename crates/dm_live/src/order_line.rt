@@ -1,9 +1,10 @@
 //! The lines of orders.
 ghost use Rattle.std.specs.Prelude.{◌≡◌, ◌≢◌, IfOk, IfSome, IfNone, MatchOption};
 ghost use Rattle.dm_text.specs.Words.{words};
-ghost use Rattle.dm_node.specs.declared.node_order.NodeOrder.{NodeOrder as AskedNodeOrder};
+ghost use Rattle.dm_live.specs.declared.asked.Asked.{Asked as OneAsked};
 ghost use Rattle.dm_live.specs.OrderLines.{node_asked, told_order, TellsNamed, TellsOrder};
 
+use crate::asked::Asked;
 use crate::form::Form;
 use crate::order_name::{OrderName, read_name};
 use crate::order_words::{
@@ -12,7 +13,7 @@ use crate::order_words::{
 };
 use dm_base::Cause;
 use dm_machine::Conn;
-use dm_node::NodeOrder;
+use dm_node::Order;
 use dm_text::{Words, read_hex_word, read_long_number};
 use dm_wire::Octets;
 use std::alloc::{AllocError, Global};
@@ -35,23 +36,26 @@ pub enum OrderLine {
 }
 
 impl OrderLine {
-    /// The order for a node's session. It never answers want of memory.
-    pub fn order(&self) -> NodeOrder<'_>
+    /// What it asks of a node. It never answers want of memory.
+    pub fn asked(&self) -> Asked<'_>
         ensures { node_asked result ≡ told_order self.now }
     {
         match self {
-            OrderLine::Start(index, conn) => NodeOrder::Start(*index, *conn),
-            OrderLine::Ack(conn) => NodeOrder::Ack(*conn),
-            OrderLine::Nack(conn) => NodeOrder::Nack(*conn),
-            OrderLine::Accept(conn) => NodeOrder::Accept(*conn),
-            OrderLine::Octets(conn, piece) => NodeOrder::Octets(*conn, piece.as_slice()),
-            OrderLine::Gone(conn) => NodeOrder::Gone(*conn),
-            OrderLine::Timeout(index) => NodeOrder::Timeout(*index),
-            OrderLine::Tick(index) => NodeOrder::Tick(*index),
-            OrderLine::Stop(index, cause) => NodeOrder::Stop(*index, *cause),
-            OrderLine::Submit(index, octets) => NodeOrder::Submit(*index, octets.as_slice()),
-            OrderLine::Reset(index) => NodeOrder::Reset(*index),
-            OrderLine::ResetAll => NodeOrder::ResetAll,
+            OrderLine::Start(index, conn) => Asked::Order(Order::Start(*index, *conn)),
+            OrderLine::Ack(conn) => Asked::Order(Order::Ack(*conn)),
+            OrderLine::Nack(conn) => Asked::Order(Order::Nack(*conn)),
+            OrderLine::Accept(conn) => Asked::Order(Order::Accept(*conn)),
+            OrderLine::Octets(conn, piece) => Asked::Piece(*conn, piece.as_slice()),
+            OrderLine::Gone(conn) => Asked::Order(Order::Gone(*conn)),
+            OrderLine::Timeout(index) => Asked::Order(Order::Timeout(*index)),
+            OrderLine::Tick(index) => Asked::Order(Order::Tick(*index)),
+            OrderLine::Stop(index, cause) => Asked::Order(Order::Stop(*index, *cause)),
+            OrderLine::Submit(index, octets) => Asked::Order(Order::Submit(
+                *index,
+                octets.as_slice(),
+            )),
+            OrderLine::Reset(index) => Asked::Order(Order::Reset(*index)),
+            OrderLine::ResetAll => Asked::Order(Order::ResetAll),
         }
     }
 }
@@ -59,7 +63,7 @@ impl OrderLine {
 /// The order that a line tells; None where it tells none.
 pub fn read_order(alloc: Global, form: Form, line: &[u8]) -> Result<Option<OrderLine>, AllocError>
     ensures { IfOk result (λ read. MatchOption read
-        ((o : AskedNodeOrder) → TellsOrder form (node_asked o) line.now → ⊥)
+        ((o : OneAsked) → TellsOrder form (node_asked o) line.now → ⊥)
         (λ o. TellsOrder form (told_order o) line.now)) }
 {
     let mut left = Words::new(line);
@@ -81,7 +85,7 @@ fn read_behind(form: Form, name: OrderName, left: &mut Words<'_>) -> Option<Orde
     requires submit { name ≢ OrderName.Submit }
     requires reset { name ≢ OrderName.Reset }
     ensures told { IfSome result (λ o. TellsNamed form name (told_order o) (words left.old)) }
-    ensures none { IfNone result ((o : AskedNodeOrder)
+    ensures none { IfNone result ((o : OneAsked)
         → TellsNamed form name (node_asked o) (words left.old) → ⊥) }
 {
     match name {
@@ -106,7 +110,7 @@ fn read_behind(form: Form, name: OrderName, left: &mut Words<'_>) -> Option<Orde
 /// Each neighbour begins anew, the one alone too, or the one that is named.
 fn read_reset(form: Form, left: &mut Words<'_>) -> Option<OrderLine>
     ensures told { IfSome result (λ o. TellsNamed form OrderName.Reset (told_order o) (words left.old)) }
-    ensures none { IfNone result ((o : AskedNodeOrder)
+    ensures none { IfNone result ((o : OneAsked)
         → TellsNamed form OrderName.Reset (node_asked o) (words left.old) → ⊥) }
 {
     match form {
@@ -120,7 +124,7 @@ fn read_reset(form: Form, left: &mut Words<'_>) -> Option<OrderLine>
 fn read_several_reset(left: &mut Words<'_>) -> Option<OrderLine>
     ensures told { IfSome result (λ o.
         TellsNamed Form.Several OrderName.Reset (told_order o) (words left.old)) }
-    ensures none { IfNone result ((o : AskedNodeOrder)
+    ensures none { IfNone result ((o : OneAsked)
         → TellsNamed Form.Several OrderName.Reset (node_asked o) (words left.old) → ⊥) }
 {
     let Some(word) = left.next() else {
@@ -141,7 +145,7 @@ fn read_piece(
 ) -> Result<Option<OrderLine>, AllocError>
     ensures told { IfOk result (λ read. IfSome read (λ o.
         TellsNamed form OrderName.Octets (told_order o) (words left.old))) }
-    ensures none { IfOk result (λ read. IfNone read ((o : AskedNodeOrder)
+    ensures none { IfOk result (λ read. IfNone read ((o : OneAsked)
         → TellsNamed form OrderName.Octets (node_asked o) (words left.old) → ⊥)) }
 {
     let Some((conn, word)) = conn_and_word(left) else {
@@ -161,7 +165,7 @@ fn read_message(
 ) -> Result<Option<OrderLine>, AllocError>
     ensures told { IfOk result (λ read. IfSome read (λ o.
         TellsNamed form OrderName.Submit (told_order o) (words left.old))) }
-    ensures none { IfOk result (λ read. IfNone read ((o : AskedNodeOrder)
+    ensures none { IfOk result (λ read. IfNone read ((o : OneAsked)
         → TellsNamed form OrderName.Submit (node_asked o) (words left.old) → ⊥)) }
 {
     let Some((index, word)) = neighbour_and_word(form, left) else {

@@ -18,22 +18,22 @@ fn add_peer(
     alloc: Global,
     template: &Config,
     host: &[u8],
-    session: &mut Node,
+    node: &mut Node,
 ) -> Result<Result<(), &'static str>, AllocError>
-    ensures added { IfOk result (λ added. OnOk added (AddsLike template.now host.now (node_state_of session.old)
-        (node_state_of session.new))) }
-    ensures unmet { IfOk result (λ added. OnOk added (node_known_of session.new
-        ≡ with_nobody (node_known_of session.old))) }
+    ensures added { IfOk result (λ added. OnOk added (AddsLike template.now host.now (node_state_of node.old)
+        (node_state_of node.new))) }
+    ensures unmet { IfOk result (λ added. OnOk added (node_known_of node.new
+        ≡ with_nobody (node_known_of node.old))) }
     ensures fit { IfOk result (λ added. OnOk added (config_fault template.now.node.host host.now ≡ None)) }
-    ensures new { IfOk result (λ added. OnOk added (IsKnown (node_state_of session.old).peers host.now → ⊥)) }
+    ensures new { IfOk result (λ added. OnOk added (IsKnown (node_state_of node.old).peers host.now → ⊥)) }
     ensures fault { IfOk result (λ added. IfErr added (λ name.
-        RefusesHost template.now.node.host (node_state_of session.old).peers host.now name.now)) }
+        RefusesHost template.now.node.host (node_state_of node.old).peers host.now name.now)) }
 {
     let config = match template.for_host(alloc, host) {
         Ok(config) => config,
         Err(fault) => return Ok(Err(config_fault_name(fault)?)),
     };
-    match session.add(config) {
+    match node.add(config) {
         Ok(_) => Ok(Ok(())),
         Err(AddFault::Known) => Ok(Err("Known")),
         Err(AddFault::NoMemory) => Err(AllocError),
@@ -45,14 +45,14 @@ fn add_peers(
     alloc: Global,
     draft: &Draft,
     template: &Config,
-    session: &mut Node,
+    node: &mut Node,
 ) -> Result<Result<(), &'static str>, AllocError>
     requires made { IsConfiguredFor (settings_of draft.now) (first_told (settings_of draft.now).peers) template.now }
-    requires none { BeginsForHosts (settings_of draft.now) [] (node_state_of session.old) }
-    requires nobody { AreUnmet (node_known_of session.old) }
+    requires none { BeginsForHosts (settings_of draft.now) [] (node_state_of node.old) }
+    requires nobody { AreUnmet (node_known_of node.old) }
     ensures begun { IfOk result (λ added. OnOk added (BeginsForHosts (settings_of draft.now)
-        (settings_of draft.now).peers (node_state_of session.new))) }
-    ensures unmet { IfOk result (λ added. OnOk added (AreUnmet (node_known_of session.new))) }
+        (settings_of draft.now).peers (node_state_of node.new))) }
+    ensures unmet { IfOk result (λ added. OnOk added (AreUnmet (node_known_of node.new))) }
     ensures good { IfOk result (λ added. OnOk added (peers_fault (settings_of draft.now).host []
         (settings_of draft.now).peers ≡ None)) }
     ensures fault { IfOk result (λ added. IfErr added (λ name. peers_fault (settings_of draft.now).host []
@@ -60,7 +60,7 @@ fn add_peers(
 {
     let mut rest = draft.peers();
     'host: while let Some((host, more)) = rest.split_first() {
-        if let Err(name) = add_peer(alloc, template, host.as_slice(), session)? {
+        if let Err(name) = add_peer(alloc, template, host.as_slice(), node)? {
             return Ok(Err(name));
         }
         rest = more;
@@ -68,32 +68,32 @@ fn add_peers(
     Ok(Ok(()))
 }
 
-/// The session of the node with the neighbours that the draft tells, or the name of why the first can't be had that
+/// The node with the neighbours that the draft tells, or the name of why the first can't be had that
 /// can't.
-pub(crate) fn node_session(
+pub(crate) fn node_told(
     alloc: Global,
     draft: &Draft,
     template: &Config,
 ) -> Result<Result<Node, &'static str>, AllocError>
     requires made { IsConfiguredFor (settings_of draft.now) (first_told (settings_of draft.now).peers) template.now }
-    ensures begun { IfOk result (λ made. IfOk made (λ session. BeginsForHosts (settings_of draft.now)
-        (settings_of draft.now).peers (node_state_of session))) }
-    ensures unmet { IfOk result (λ made. IfOk made (λ session. AreUnmet (node_known_of session))) }
+    ensures begun { IfOk result (λ made. IfOk made (λ node. BeginsForHosts (settings_of draft.now)
+        (settings_of draft.now).peers (node_state_of node))) }
+    ensures unmet { IfOk result (λ made. IfOk made (λ node. AreUnmet (node_known_of node))) }
     ensures good { IfOk result (λ made. OnOk made (peers_fault (settings_of draft.now).host []
         (settings_of draft.now).peers ≡ None)) }
     ensures fault { IfOk result (λ made. IfErr made (λ name. peers_fault (settings_of draft.now).host []
         (settings_of draft.now).peers ≡ Some name.now)) }
 {
-    let node = template.node().clone()?;
-    let mut session = Node::new(alloc, node, draft.first_max(), draft.most());
-    match add_peers(alloc, draft, template, &mut session) {
-        Ok(Ok(())) => Ok(Ok(session)),
+    let own = template.node().clone()?;
+    let mut node = Node::new(alloc, own, draft.first_max(), draft.most());
+    match add_peers(alloc, draft, template, &mut node) {
+        Ok(Ok(())) => Ok(Ok(node)),
         Ok(Err(name)) => {
-            drop(session);
+            drop(node);
             Ok(Err(name))
         }
         Err(error) => {
-            drop(session);
+            drop(node);
             Err(error)
         }
     }

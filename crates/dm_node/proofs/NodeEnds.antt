@@ -1,5 +1,7 @@
 -- Behind a Close of a node's connection, and behind its end, nothing is told of it.
 use Rattle.std.proofs.Common.{◌≡◌, inl, inr, ℕ, Bool, true, false, cond, nat_eq, Option, None, Some, is_some, true≢false, List, refl, sym, ap, ◌∙◌, subst}
+use Rattle.std.proofs.Math.Path.{fun_ext}
+use Rattle.std.proofs.lemmas.Bool.{eqb-true}
 use Rattle.std.specs.Option.{option_map}
 use Rattle.dm_machine.specs.Moves.{is_open}
 use Rattle.dm_machine.specs.declared.connection.Conn.{Conn}
@@ -7,11 +9,11 @@ use Rattle.dm_node.specs.declared.events.NodeEvent.{NodeEvent}
 use Rattle.dm_node.specs.declared.events.NodeEvent.TheVariants as event
 use Rattle.dm_node.specs.Policies.{Policy}
 use Rattle.dm_peer.specs.declared.peer.Peer.{Peer}
-use Rattle.dm_slots.specs.Intakes.{Intake, Intakes, is_there, is_conn_number, with_intake, broken_intake, changed, taken_down, fed_intake, with_max, actions_close, left_by, raised_at}
+use Rattle.dm_slots.specs.Intakes.{Intake, Intakes, is_there, is_conn_number, with_intake, broken_intake, taken_down, fed_intake, with_max, actions_close, left_by, raised_at}
 use Rattle.dm_slots.specs.Raised.{own_of, other_of}
-use Rattle.dm_node.specs.declared.node_order.NodeOrder.{NodeOrder}
-use Rattle.dm_node.specs.declared.node_order.NodeOrder.TheVariants as order
-use Rattle.dm_node.specs.NodeEnding.{IsOnConn}
+use Rattle.dm_node.specs.declared.order.Order.{Order}
+use Rattle.dm_node.specs.declared.order.Order.TheVariants as order
+use Rattle.dm_node.specs.NodeEnding.{IsOnConn, NodeGoneKeepsNothing}
 use Rattle.dm_node.specs.NodeOrders.{NodeTellsOnce, NodeTellsNothing, NodeTellsIfThere, NodeTellsNack, NodeTellsEnd, NodeTakes, ShutsUnheld}
 use Rattle.dm_node.specs.NodeStates.{NodeState, NodeAnswer, NodeTellsAs, concerned_in, raised_for, node_settled, with_node_intakes}
 
@@ -38,7 +40,7 @@ closed_is_gone s t answer qs d left is =
     ∙ none_raised s.most (concerned_in qs answer.neighbour) (left_by answer.actions s.intakes) d
     (ap (λ b. cond b None (s.intakes d)) is)
 
--- the session with what is left of an intake
+-- the node with what is left of an intake
 abbrev with_rest : Conn → NodeState → Intake → List ℕ → NodeState
 with_rest c s i rest = with_node_intakes (with_intake c.0 (Some (record i { octets = rest })) s.intakes) s
 
@@ -74,13 +76,6 @@ none_shut d c f h = by (nat_eq d c)
     by true = refl
     by false = h
 
-none_fed : (d c : ℕ) (piece : List ℕ) (f : Intakes) → f c ≡ None → changed d (fed_intake piece) f c ≡ None
-none_fed d c piece f h = by (nat_eq d c)
-  where
-    by : (b : Bool) → cond b (option_map (fed_intake piece) (f c)) (f c) ≡ None
-    by true = ap (option_map (fed_intake piece)) h
-    by false = h
-
 end_not_there : (c d : Conn) (e : NodeEvent) (s t : NodeState) (asks : Option NodeAnswer) → s.intakes c.0 ≡ None →
     d ≡ c → NodeTellsEnd d e s asks t → (asks ≡ None) × (t.intakes c.0 ≡ None)
 end_not_there c d e s t asks none same h =
@@ -103,15 +98,13 @@ nack_not_there c d s t asks none same h =
       none_unheld c d h.0 t (ap (λ (v : NodeState). v.intakes c.0) nothing.1 ∙ none) h.2,
     )
 
-pub gone_is_silent : (c : Conn) (o : NodeOrder) (s t : NodeState) (asks : Option NodeAnswer) →
+pub gone_is_silent : (c : Conn) (o : Order) (s t : NodeState) (asks : Option NodeAnswer) →
     s.intakes c.0 ≡ None → IsOnConn c o → NodeTakes o s asks t → (asks ≡ None) × (t.intakes c.0 ≡ None)
 gone_is_silent c (order.Ack d) s t asks none same h =
     let nothing = not_there c d (event.Ack d) s t asks none same h in
     (nothing.0, ap (λ (v : NodeState). v.intakes c.0) nothing.1 ∙ none)
 gone_is_silent c (order.Nack d) s t asks none same h = nack_not_there c d s t asks none same h
 gone_is_silent c (order.Gone d) s t asks none same h = end_not_there c d (event.Gone d) s t asks none same h
-gone_is_silent c (order.Octets d piece) s t asks none same h =
-    (h.0, ap (λ (v : NodeState). v.intakes c.0) h.1 ∙ none_fed d.0 c.0 piece.now s.intakes none)
 gone_is_silent c (order.Start n d) s t asks none same h = absurd same
 gone_is_silent c (order.Accept d) s t asks none same h = absurd same
 gone_is_silent c (order.Timeout n) s t asks none same h = absurd same
@@ -120,3 +113,15 @@ gone_is_silent c (order.Stop n cause) s t asks none same h = absurd same
 gone_is_silent c (order.Submit n octets) s t asks none same h = absurd same
 gone_is_silent c (order.Reset n) s t asks none same h = absurd same
 gone_is_silent c order.ResetAll s t asks none same h = absurd same
+
+-- nothing is kept of a connection that isn't there
+gone_kept_at : (d c : ℕ) (piece : List ℕ) (f : Intakes) → f c ≡ None → (b : Bool) → nat_eq c d ≡ b →
+    cond b (option_map (fed_intake piece) (f d)) (f d) ≡ f d
+gone_kept_at d c piece f none true e =
+    let here : f d ≡ None = ap f (sym (eqb-true c d e)) ∙ none in
+    subst (λ o. option_map (fed_intake piece) o ≡ o) (sym here) refl
+gone_kept_at d c piece f none false e = refl
+
+pub gone_keeps_nothing : NodeGoneKeepsNothing
+gone_keeps_nothing c piece s none =
+    ap (λ f. with_node_intakes f s) (fun_ext (λ d. gone_kept_at d c.0 piece s.intakes none (nat_eq c.0 d) refl))

@@ -69,7 +69,7 @@ tells_once policy c octets s r t u a b sound same h k =
 one_there : (o : Option Intake) (i j : Intake) → o ≡ Some i → o ≡ Some j → i ≡ j
 one_there o i j e d = ap (λ v. unwrap_or v i) (sym e ∙ d)
 
--- the session with what is left of an intake
+-- the node with what is left of an intake
 abbrev with_rest : Conn → NodeState → Intake → List ℕ → NodeState
 with_rest c s i rest = with_node_intakes (with_intake c.0 (Some (record i { octets = rest })) s.intakes) s
 

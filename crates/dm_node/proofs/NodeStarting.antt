@@ -1,5 +1,5 @@
--- Orders of a node's session: a Start, an end, and why they are refused.
-use Rattle.std.proofs.Common.{◌≡◌, inl, inr, ◌⊎◌, ℕ, Bool, true, false, cond, nat_eq, true≢false, is_some, Option, None, Some, Result, Ok, Err, IfErr, List, refl, sym, ap, ◌∙◌, subst}
+-- Orders of a node: a Start, and an end.
+use Rattle.std.proofs.Common.{◌≡◌, ℕ, Bool, true, false, cond, nat_eq, true≢false, is_some, Option, None, Some, List, refl, sym, ap, ◌∙◌, subst}
 use Rattle.std.proofs.Math.Path.{fun_ext}
 use Rattle.std.proofs.lemmas.Bool.{eqb-true}
 use Rattle.dm_base.specs.declared.node.Node.{Node}
@@ -9,20 +9,15 @@ use Rattle.dm_node.specs.Policies.{no_strangers}
 use Rattle.dm_node.specs.Strangers.{NodeIsTold}
 use Rattle.dm_node.specs.Telling.{IsFree, PeerIsTold}
 use Rattle.dm_node.specs.declared.events.NodeEvent.TheVariants as event
-use Rattle.dm_node.specs.declared.fault.EventFault.{EventFault}
-use Rattle.dm_node.specs.declared.fault.EventFault.TheVariants as fault
 use Rattle.dm_peer.specs.declared.actions.Action.{Action}
-use Rattle.dm_peer.specs.declared.fault.PeerFault.TheVariants.{NoMemory}
 use Rattle.dm_peer.specs.declared.peer.Peer.{Peer}
 use Rattle.dm_peer.specs.Events.{Gone}
 use Rattle.dm_peer.specs.Holding.{GoneIsUnheld}
 use Rattle.dm_slots.specs.Intakes.{Intake, Intakes, is_there, taken_down, with_intake, new_intake}
-use Rattle.dm_node.specs.declared.node_order.NodeOrder.{NodeOrder}
-use Rattle.dm_node.specs.declared.node_order.NodeOrder.TheVariants as order
 use Rattle.dm_node.specs.NodeHeld.{AllHeldAreThere, AreKept}
-use Rattle.dm_node.specs.NodeOrders.{node_opened, node_shut, NodeTellsOnce, NodeTellsNothing, NodeTellsIfThere, NodeTellsStart, NodeRefuses}
+use Rattle.dm_node.specs.NodeOrders.{node_opened, node_shut, NodeTellsOnce, NodeTellsNothing, NodeTellsIfThere, NodeTellsStart}
 use Rattle.dm_node.specs.NodeStates.{NodeState, NodeAnswer, with_node_intakes}
-use Rattle.dm_node.proofs.NodeMoving.{two_truths, unlike, free_of}
+use Rattle.dm_node.proofs.NodeMoving.{unlike, free_of}
 use Rattle.dm_node.proofs.NodeStaying.{none_holds}
 
 none_of : (o : Option Intake) → is_some o ≡ false → o ≡ None
@@ -83,28 +78,3 @@ gone_free gone c s t asks kept apart there told = by (is_there c.0 s.intakes) re
       (gone_moved gone c s.node s.peers tells.peers answer.neighbour answer.actions kept apart tells.moved)
   by false is nothing =
       subst (λ (v : NodeState). IsFree v.peers c) (sym nothing.1) (none_holds s.peers s.intakes c there is)
-
--- a Start under a number that is held is never told
-never : (o : NodeOrder) (s : NodeState) → AllHeldAreThere s.peers s.intakes → NodeRefuses o s fault.Held → ⊥
-never (order.Start n c) s there h = two_truths (is_there c.0 s.intakes) (there h.1.0 c h.1.1) h.0
-never (order.Ack c) s there h = h.1
-never (order.Nack c) s there h = h.1
-never (order.Accept c) s there h = h
-never (order.Octets c piece) s there h = h
-never (order.Gone c) s there h = h.1
-never (order.Timeout n) s there h = h
-never (order.Tick n) s there h = h
-never (order.Stop n cause) s there h = h
-never (order.Submit n octets) s there h = h
-never (order.Reset n) s there h = h
-never order.ResetAll s there h = h
-
-pub never_held : (o : NodeOrder) (s : NodeState) (f : EventFault) → AllHeldAreThere s.peers s.intakes →
-    (f ≡ fault.Peer NoMemory) ⊎ NodeRefuses o s f → f ≡ fault.Held → ⊥
-never_held o s f there (inl memory) is = absurd (cc (sym memory ∙ is))
-never_held o s f there (inr refuses) is = never o s there (subst (NodeRefuses o s) is refuses)
-
-pub unheld : {A : Type 0} (o : NodeOrder) (s : NodeState) (r : Result A EventFault) → AllHeldAreThere s.peers s.intakes →
-    IfErr r (λ f. (f ≡ fault.Peer NoMemory) ⊎ NodeRefuses o s f) → IfErr r (λ f. f ≡ fault.Held → ⊥)
-unheld o s (Ok a) there refused = tt
-unheld o s (Err f) there refused = never_held o s f there refused

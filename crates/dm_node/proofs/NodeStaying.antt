@@ -12,7 +12,7 @@ use Rattle.dm_slots.specs.Naming.{NamesThere, NamesAtMost}
 use Rattle.dm_slots.specs.Staying.{OpeningKeeps, ChangingKeeps, TellingKeeps, RaisingKeeps, ClosingKeeps, ShuttingKeeps}
 use Rattle.dm_node.specs.NodeHeld.{AllHeldAreThere}
 use Rattle.dm_base.specs.declared.node.Node.{Node}
-use Rattle.dm_node.specs.NodeStates.{NodeState, raised_for, node_settled, with_node_intakes}
+use Rattle.dm_node.specs.NodeStates.{NodeState, concerned_in, raised_for, node_settled, with_node_intakes}
 use Rattle.dm_node.specs.NodeOrders.{node_opened}
 use Rattle.dm_node.proofs.NodeMoving.{two_truths}
 
@@ -83,17 +83,18 @@ done_or_not (Ok a) P x old new ok err there before = subst P (sym ok) there
 done_or_not (Err e) P x old new ok err there before = subst P (sym err) before
 
 -- what is settled goes by the node, the neighbours and what is there
-abbrev pub session_at : NodeState → Node → List (Option Peer) → Intakes → NodeState
-session_at s n qs f = record { node = n; peers = qs; intakes = f; first_max = s.first_max; most = s.most }
+abbrev pub node_at : NodeState → Node → List (Option Peer) → Intakes → NodeState
+node_at s n qs f = record { node = n; peers = qs; intakes = f; first_max = s.first_max; most = s.most }
 
+-- what is left behind an event of a node whose connections were these
 pub settled_as : (s : NodeState) (n : Node) (qs : List (Option Peer)) (who : Option ℕ) (actions : List Action)
-    (g f : Intakes) → n ≡ s.node → g ≡ f →
-    node_settled who qs actions (session_at s n qs g) ≡ node_settled who qs actions (with_node_intakes f s)
-settled_as s n qs who actions g f same is =
-    ap (λ m. node_settled who qs actions (session_at s m qs g)) same
-    ∙ ap (λ h. node_settled who qs actions (session_at s s.node qs h)) is
+    (h g f : Intakes) → n ≡ s.node → h ≡ raised_for s.most (concerned_in qs who) (left_by actions g) → g ≡ f →
+    node_at s n qs h ≡ node_settled who qs actions (with_node_intakes f s)
+settled_as s n qs who actions h g f same left is =
+    ap (λ m. node_at s m qs h) same
+    ∙ ap (node_at s s.node qs) (left ∙ ap (λ x. raised_for s.most (concerned_in qs who) (left_by actions x)) is)
 
-pub session_is : (s : NodeState) (n m : Node) (qs rs : List (Option Peer)) (g f : Intakes) → n ≡ m → qs ≡ rs → g ≡ f →
-    session_at s n qs g ≡ session_at s m rs f
-session_is s n m qs rs g f node peers is =
-    ap (λ x. session_at s x qs g) node ∙ ap (λ l. session_at s m l g) peers ∙ ap (session_at s m rs) is
+pub node_is : (s : NodeState) (n m : Node) (qs rs : List (Option Peer)) (g f : Intakes) → n ≡ m → qs ≡ rs → g ≡ f →
+    node_at s n qs g ≡ node_at s m rs f
+node_is s n m qs rs g f node peers is =
+    ap (λ x. node_at s x qs g) node ∙ ap (λ l. node_at s m l g) peers ∙ ap (node_at s m rs) is

@@ -10,8 +10,8 @@ use Rattle.dm_node.specs.Strangers.{NodeMoves, TellsConcerned, NodeIsTold}
 use Rattle.dm_node.specs.Telling.{Concerns, IsAddressed, IsFree, IsMisdirected, IsRefusedBy, IsRefusedHere, IsStrangeCer, told_of}
 use Rattle.dm_node.specs.declared.events.NodeEvent.{NodeEvent}
 use Rattle.dm_node.specs.declared.events.NodeEvent.TheVariants as event
-use Rattle.dm_node.specs.declared.fault.EventFault.{EventFault}
-use Rattle.dm_node.specs.declared.fault.EventFault.TheVariants as fault
+use Rattle.dm_node.specs.declared.fault.OrderFault.{OrderFault}
+use Rattle.dm_node.specs.declared.fault.OrderFault.TheVariants as fault
 use Rattle.dm_peer.specs.declared.actions.Action.{Action}
 use Rattle.dm_peer.specs.declared.fault.PeerFault.{PeerFault}
 use Rattle.dm_peer.specs.declared.fault.PeerFault.TheVariants.{NoMemory}
@@ -109,12 +109,11 @@ refused_by policy ps e f i is h = elim h.refused [
   | inr declined ↦ inr (i, is, record { peer = h.peer; at = h.at; refused = declined })
 ]
 
-pub refused : (policy : Policy) (ps : List (Option Peer)) (e : NodeEvent) (f : EventFault) →
+pub refused : (policy : Policy) (ps : List (Option Peer)) (e : NodeEvent) (f : OrderFault) →
     IsRefusedHere policy ps e f → (f ≡ fault.Peer NoMemory) ⊎ IsDeclinedHere policy ps e f
 refused policy ps e (fault.Peer f) (inl (i, is, h)) = refused_by policy ps e f i is h
 refused policy ps e (fault.Peer f) (inr h) = inl (ap fault.Peer h.0)
 refused policy ps e fault.NoNeighbour h = inr h
-refused policy ps e fault.Held h = inr h
 
 -- octets are refused for want of memory alone, where some is wanted
 wanted : RefusesByRule → (p : Peer) (c : Conn) (s : List ℕ) (f : PeerFault) → IsKept p →
@@ -123,10 +122,10 @@ wanted rule p c s f kept (inl wants) = wants.1
 wanted rule p c s f kept (inr is) = absurd (cc (sym (ap fault_at is) ∙ rule p (Arrived c s) kept.settled.shaped))
 
 memory_at : RefusesByRule → (policy : Policy) (ps : List (Option Peer)) (c : Conn) (octets : List ℕ) (e : NodeEvent)
-    (f : EventFault) → AreKept ps → told_of e ≡ Arrived c octets →
+    (f : OrderFault) → AreKept ps → told_of e ≡ Arrived c octets →
     ((i : ℕ) → Concerns policy ps e i → IsAddressed policy ps c octets i) →
     ((i : ℕ) → IsAddressed policy ps c octets i → Concerns policy ps e i) →
-    (IsStrangeCer e → IsSome (caller_of octets)) → ((g : EventFault) → IsMisdirected ps e g → ⊥) →
+    (IsStrangeCer e → IsSome (caller_of octets)) → ((g : OrderFault) → IsMisdirected ps e g → ⊥) →
     IsRefusedHere policy ps e f → TakesMemoryAt policy c octets ps
 memory_at rule policy ps c octets e (fault.Peer f) kept is there back cer none (inl (i, at, h)) =
     inl (
@@ -140,14 +139,13 @@ memory_at rule policy ps c octets e (fault.Peer f) kept is there back cer none (
     inr (λ i at. h.1 i (back i at), cer h.2)
 memory_at rule policy ps c octets e fault.NoNeighbour kept is there back cer none h =
     absurd (none fault.NoNeighbour h)
-memory_at rule policy ps c octets e fault.Held kept is there back cer none h = absurd (none fault.Held h)
 
 abbrev memory_on : Policy → List (Option Peer) → PeerEvent → Type 0
 memory_on policy ps (Arrived c s) = TakesMemoryAt policy c s ps
 memory_on policy ps e = ⊥
 
 pub memory : RefusesByRule → (policy : Policy) (ps : List (Option Peer)) (c : Conn) (octets : List ℕ) (e : NodeEvent)
-    (f : EventFault) → AreKept ps → told_of e ≡ Arrived c octets → IsRefusedHere policy ps e f →
+    (f : OrderFault) → AreKept ps → told_of e ≡ Arrived c octets → IsRefusedHere policy ps e f →
     TakesMemoryAt policy c octets ps
 memory rule policy ps c octets (event.Arrived d piece) f kept is h =
     subst (memory_on policy ps) is

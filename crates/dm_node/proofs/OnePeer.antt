@@ -55,7 +55,7 @@ told_alone : (e : PeerEvent) (p : Peer) (ps qs : List (Option Peer)) (k : ℕ) (
 told_alone e p ps qs k actions one told =
     at_first p qs k e actions (subst (λ l. PeerIsTold l qs k e actions) one told)
 
--- and so its session is left as that of its peer
+-- and so the node is left as its peer leaves it
 tells_alone : (e : PeerEvent) (p : Peer) (s t : NodeState) (answer : NodeAnswer) (qs : List (Option Peer)) (k : ℕ) →
     MovesAlone p e answer.actions k qs → answer.neighbour ≡ Some k →
     t ≡ node_settled answer.neighbour qs answer.actions s → DoesAsItsPeer e p s answer.actions t

@@ -5,15 +5,15 @@ use Rattle.dm_machine.specs.declared.state_name.State.{State}
 use Rattle.dm_machine.specs.declared.state_name.State.TheVariants as state
 use Rattle.dm_machine.specs.Moves.{is_open}
 use Rattle.dm_node.specs.Declining.{IsRuledOut, IsDirected, IsByRule, IsDeclinedHere, GoesByRule, GoesByAllRules, EventTakesMemory, IsRuleOf, IsUnruled}
-use Rattle.dm_node.specs.Holding.{peer_at, holds_at}
+use Rattle.dm_node.specs.Holding.{peer_at}
 use Rattle.dm_node.specs.Neighbourhoods.{IsNeighbourhood}
 use Rattle.dm_node.specs.NodeHeld.{AreKept}
 use Rattle.dm_node.specs.Policies.{Policy, no_strangers}
-use Rattle.dm_node.specs.Telling.{Concerns, IsFree, IsMisdirected, IsRefusedHere, IsStrangeCer, told_of}
+use Rattle.dm_node.specs.Telling.{Concerns, IsMisdirected, IsRefusedHere, IsStrangeCer, told_of}
 use Rattle.dm_node.specs.declared.events.NodeEvent.{NodeEvent}
 use Rattle.dm_node.specs.declared.events.NodeEvent.TheVariants as event
-use Rattle.dm_node.specs.declared.fault.EventFault.{EventFault}
-use Rattle.dm_node.specs.declared.fault.EventFault.TheVariants as fault
+use Rattle.dm_node.specs.declared.fault.OrderFault.{OrderFault}
+use Rattle.dm_node.specs.declared.fault.OrderFault.TheVariants as fault
 use Rattle.dm_peer.specs.declared.fault.PeerFault.{PeerFault}
 use Rattle.dm_peer.specs.declared.fault.PeerFault.TheVariants.{NoMemory, NotOpen, BadSubmit}
 use Rattle.dm_peer.specs.declared.peer.Peer.{Peer}
@@ -24,7 +24,6 @@ use Rattle.dm_peer.specs.Refusing.{RefusesByRule, fault_at, refusal_of, start_re
 use Rattle.dm_wire.specs.Whole.{message_in}
 use Rattle.dm_node.proofs.Concerned.{one_there}
 use Rattle.dm_node.proofs.Errors.{not_done, same_fault}
-use Rattle.dm_node.proofs.NodeMoving.{two_truths}
 
 -- a neighbour refuses, or nobody is named: a misdirected event is no neighbour's refusal
 pub never_of_peer : (ps : List (Option Peer)) (e : NodeEvent) (f : PeerFault) → IsMisdirected ps e (fault.Peer f) → ⊥
@@ -38,17 +37,15 @@ never_of_peer ps (event.Nack c) f h = h
 never_of_peer ps (event.Arrived c octets) f h = h
 never_of_peer ps (event.Gone c) f h = h
 
-pub misdirected_by_rule : (policy : Policy) (ps : List (Option Peer)) (e : NodeEvent) (f : EventFault) →
+pub misdirected_by_rule : (policy : Policy) (ps : List (Option Peer)) (e : NodeEvent) (f : OrderFault) →
     IsMisdirected ps e f → IsByRule policy ps e f
 misdirected_by_rule policy ps e (fault.Peer f) h = absurd (never_of_peer ps e f h)
 misdirected_by_rule policy ps e fault.NoNeighbour h = h
-misdirected_by_rule policy ps e fault.Held h = h
 
-pub misdirected_declined : (policy : Policy) (ps : List (Option Peer)) (e : NodeEvent) (f : EventFault) →
+pub misdirected_declined : (policy : Policy) (ps : List (Option Peer)) (e : NodeEvent) (f : OrderFault) →
     IsMisdirected ps e f → IsDeclinedHere policy ps e f
 misdirected_declined policy ps e (fault.Peer f) h = absurd (never_of_peer ps e f h)
 misdirected_declined policy ps e fault.NoNeighbour h = h
-misdirected_declined policy ps e fault.Held h = h
 
 -- no rule refuses for want of memory
 starts : (s : State) → start_refusal s ≡ Some NoMemory → ⊥
@@ -88,7 +85,7 @@ wanted rule p e kept (inl wants) = wants.1
 wanted rule p e kept (inr is) =
     absurd (never_of_memory p.standing.core.state e (sym (rule p e kept.settled.shaped) ∙ ap fault_at is))
 
-pub event_wants : RefusesByRule → (policy : Policy) (ps : List (Option Peer)) (e : NodeEvent) (f : EventFault) →
+pub event_wants : RefusesByRule → (policy : Policy) (ps : List (Option Peer)) (e : NodeEvent) (f : OrderFault) →
     AreKept ps → (IsStrangeCer e → ⊥) → f ≡ fault.Peer NoMemory → IsRefusedHere policy ps e f →
     EventTakesMemory policy ps e
 event_wants rule policy ps e f kept calm is h =
@@ -99,7 +96,7 @@ event_wants rule policy ps e f kept calm is h =
 
 -- the neighbour that is told it refuses by its rules
 pub one_goes : {A : Type 0} (policy : Policy) (ps : List (Option Peer)) (e : NodeEvent) (who : Option ℕ) (k : ℕ)
-    (r : Result A EventFault) → IsNeighbourhood ps → who ≡ Some k → IfSome who (Concerns policy ps e) →
+    (r : Result A OrderFault) → IsNeighbourhood ps → who ≡ Some k → IfSome who (Concerns policy ps e) →
     ((f : PeerFault) → IsRuledOut ps k (told_of e) f → r ≡ Err (fault.Peer f)) → IfErr r (IsByRule policy ps e) →
     GoesByRule policy ps e r
 one_goes policy ps e who k r apart is concerned refuses ruled =
@@ -111,17 +108,17 @@ one_goes policy ps e who k r apart is concerned refuses ruled =
     }
 
 -- and where there is none memory alone may be wanted
-pub none_goes : {A : Type 0} (S : Type 0) (policy : Policy) (ps : List (Option Peer)) (e : NodeEvent) (r : Result A EventFault) →
+pub none_goes : {A : Type 0} (S : Type 0) (policy : Policy) (ps : List (Option Peer)) (e : NodeEvent) (r : Result A OrderFault) →
     ((i : ℕ) → Concerns policy ps e i → ⊥) → IfErr r (λ f. (f ≡ fault.Peer NoMemory) × S) → GoesByRule policy ps e r
 none_goes S policy ps e r none memory =
     record { refuses = λ i f directed there out. absurd (none i there); ruled = by r memory } where
-      by : {B : Type 0} (r : Result B EventFault) → IfErr r (λ f. (f ≡ fault.Peer NoMemory) × S) → IfErr r (IsByRule policy ps e)
+      by : {B : Type 0} (r : Result B OrderFault) → IfErr r (λ f. (f ≡ fault.Peer NoMemory) × S) → IfErr r (IsByRule policy ps e)
       by (Ok a) h = tt
       by (Err f) h = subst (IsByRule policy ps e) (sym h.0) (inl refl)
 
 -- what is misdirected goes by the rules as such
-pub misdirected_goes : {A : Type 0} (policy : Policy) (ps : List (Option Peer)) (e : NodeEvent) (f : EventFault) →
-    IsMisdirected ps e f → ((g : EventFault) → IsMisdirected ps e g → f ≡ g) →
+pub misdirected_goes : {A : Type 0} (policy : Policy) (ps : List (Option Peer)) (e : NodeEvent) (f : OrderFault) →
+    IsMisdirected ps e f → ((g : OrderFault) → IsMisdirected ps e g → f ≡ g) →
     GoesByAllRules {A = A} policy ps e (Err f)
 misdirected_goes policy ps e f wrong one =
     record {
@@ -133,12 +130,12 @@ misdirected_goes policy ps e f wrong one =
     }
 
 -- and what isn't, as the neighbour that it concerns refuses it
-pub directed_goes : {A : Type 0} (policy : Policy) (ps : List (Option Peer)) (e : NodeEvent) (r : Result A EventFault) →
+pub directed_goes : {A : Type 0} (policy : Policy) (ps : List (Option Peer)) (e : NodeEvent) (r : Result A OrderFault) →
     IsDirected ps e → GoesByRule policy ps e r → GoesByAllRules policy ps e r
 directed_goes policy ps e r directed by =
     record { misdirected = λ f wrong. absurd (directed f wrong); by_rule = by }
 
-pub rule_goes : {A : Type 0} (policy : Policy) (ps : List (Option Peer)) (e : NodeEvent) (f : EventFault) →
+pub rule_goes : {A : Type 0} (policy : Policy) (ps : List (Option Peer)) (e : NodeEvent) (f : OrderFault) →
     IsRuleOf policy ps e f → GoesByAllRules {A = A} policy ps e (Err f)
 rule_goes policy ps e f rule =
     record {
@@ -161,27 +158,22 @@ unruled_goes policy ps e un =
       };
     }
 
--- A Start of a connection that nobody holds.
+-- A Start.
 
-held_free : (ps : List (Option Peer)) (c : Conn) (i : ℕ) → IsFree ps c → holds_at ps c i ≡ true → ⊥
-held_free ps c i free held = two_truths (holds_at ps c i) held (free i)
-
-pub unstarted : (ps : List (Option Peer)) (n : ℕ) (c : Conn) → IsFree ps c → peer_at ps n ≡ None →
+pub unstarted : (ps : List (Option Peer)) (n : ℕ) (c : Conn) → peer_at ps n ≡ None →
     IsRuleOf no_strangers ps (event.Start n c) fault.NoNeighbour
-unstarted ps n c free none = record { misdirected = one; refuses = never; ruled = (none, free) } where
-  one : (g : EventFault) → IsMisdirected ps (event.Start n c) g → fault.NoNeighbour ≡ g
-  one fault.Held (i, held) = absurd (held_free ps c i free held)
+unstarted ps n c none = record { misdirected = one; refuses = never; ruled = none } where
+  one : (g : OrderFault) → IsMisdirected ps (event.Start n c) g → fault.NoNeighbour ≡ g
   one fault.NoNeighbour h = refl
   one (fault.Peer f) h = absurd h
 
   never : (i : ℕ) (g : PeerFault) → IsDirected ps (event.Start n c) → Concerns no_strangers ps (event.Start n c) i →
       IsRuledOut ps i (Start c) g → fault.NoNeighbour ≡ fault.Peer g
-  never i g directed is out = absurd (directed fault.NoNeighbour (none, free))
+  never i g directed is out = absurd (directed fault.NoNeighbour none)
 
-module _ (ps : List (Option Peer)) (n : ℕ) (c : Conn) (free : IsFree ps c) (p : Peer) (at : peer_at ps n ≡ Some p) where
+module _ (ps : List (Option Peer)) (n : ℕ) (c : Conn) (p : Peer) (at : peer_at ps n ≡ Some p) where
   directed : IsDirected ps (event.Start n c)
-  directed fault.Held (i, held) = held_free ps c i free held
-  directed fault.NoNeighbour (none, h) = let clash : None ≡ Some p = sym none ∙ at in absurd (cc clash)
+  directed fault.NoNeighbour none = let clash : None ≡ Some p = sym none ∙ at in absurd (cc clash)
   directed (fault.Peer f) h = h
 
   same_peer : (q : Peer) → Some q ≡ Some p → q ≡ p
@@ -230,12 +222,12 @@ module _ (ps : List (Option Peer)) (n : ℕ) (c : Conn) (free : IsFree ps c) (p 
       }
 
 -- what holds of each fault of a neighbour's rules
-pub each_fault : (P : EventFault → Type 0) (r : Option EventFault) (o : Option PeerFault) → r ≡ option_map fault.Peer o →
+pub each_fault : (P : OrderFault → Type 0) (r : Option OrderFault) (o : Option PeerFault) → r ≡ option_map fault.Peer o →
     ((f : PeerFault) → o ≡ Some f → P (fault.Peer f)) → IfSome r P
 each_fault P r None is all = subst (λ x. IfSome x P) (sym is) tt
 each_fault P r (Some f) is all = subst (λ x. IfSome x P) (sym is) (all f refl)
 
-pub no_fault : (P : Type 0) (r : Option EventFault) (o : Option PeerFault) → r ≡ option_map fault.Peer o →
+pub no_fault : (P : Type 0) (r : Option OrderFault) (o : Option PeerFault) → r ≡ option_map fault.Peer o →
     (o ≡ None → P) → IfNone r P
 no_fault P r None is allowed = subst (λ x. IfNone x P) (sym is) (allowed refl)
 no_fault P r (Some f) is allowed = subst (λ x. IfNone x P) (sym is) tt
@@ -243,7 +235,7 @@ no_fault P r (Some f) is allowed = subst (λ x. IfNone x P) (sym is) tt
 -- Rules that a call handed on keeps.
 
 pub done_goes : {A B : Type 0} (policy : Policy) (ps : List (Option Peer)) (e : NodeEvent) (a : A) (b : B)
-    (r : Result B EventFault) → r ≡ Ok b → IsDirected ps e → GoesByRule policy ps e r → GoesByAllRules policy ps e (Ok a)
+    (r : Result B OrderFault) → r ≡ Ok b → IsDirected ps e → GoesByRule policy ps e r → GoesByAllRules policy ps e (Ok a)
 done_goes policy ps e a b r is directed rules =
     record {
       misdirected = λ f wrong. absurd (directed f wrong);
@@ -253,8 +245,8 @@ done_goes policy ps e a b r is directed rules =
       };
     }
 
-pub failed_goes : {B : Type 0} (A : Type 0) (policy : Policy) (ps : List (Option Peer)) (e : NodeEvent) (f : EventFault)
-    (r : Result B EventFault) → r ≡ Err f → IsDirected ps e → GoesByRule policy ps e r →
+pub failed_goes : {B : Type 0} (A : Type 0) (policy : Policy) (ps : List (Option Peer)) (e : NodeEvent) (f : OrderFault)
+    (r : Result B OrderFault) → r ≡ Err f → IsDirected ps e → GoesByRule policy ps e r →
     GoesByAllRules {A = A} policy ps e (Err f)
 failed_goes A policy ps e f r is directed rules =
     record {
@@ -266,12 +258,12 @@ failed_goes A policy ps e f r is directed rules =
     }
 
 pub done_all : {A B : Type 0} (policy : Policy) (ps : List (Option Peer)) (e : NodeEvent) (a : A) (b : B)
-    (r : Result B EventFault) → r ≡ Ok b → GoesByAllRules policy ps e r → GoesByAllRules policy ps e (Ok a)
+    (r : Result B OrderFault) → r ≡ Ok b → GoesByAllRules policy ps e r → GoesByAllRules policy ps e (Ok a)
 done_all policy ps e a b r is rules =
     done_goes policy ps e a b r is (λ f wrong. not_done b f r is (rules.misdirected f wrong)) rules.by_rule
 
-pub failed_all : {B : Type 0} (A : Type 0) (policy : Policy) (ps : List (Option Peer)) (e : NodeEvent) (f : EventFault)
-    (r : Result B EventFault) → r ≡ Err f → GoesByAllRules policy ps e r → GoesByAllRules {A = A} policy ps e (Err f)
+pub failed_all : {B : Type 0} (A : Type 0) (policy : Policy) (ps : List (Option Peer)) (e : NodeEvent) (f : OrderFault)
+    (r : Result B OrderFault) → r ≡ Err f → GoesByAllRules policy ps e r → GoesByAllRules {A = A} policy ps e (Err f)
 failed_all A policy ps e f r is rules =
     record {
       misdirected = λ g wrong. ap Err (same_fault f g r is (rules.misdirected g wrong));

@@ -10,14 +10,14 @@ use Rattle.dm_node.specs.Adding.{with_new}
 use Rattle.dm_node.specs.Holding.{peer_at}
 use Rattle.dm_node.specs.NodeHistory.{NodeStep, WasAdded, WasTold, MovedNobody, WasSetBack, AllWereSetBack, NodeBecame, added, told, unmoved, removed, back, all_back}
 use Rattle.dm_node.specs.NodeOrders.{NodeTellsOnce, NodeTellsNothing, node_opened}
-use Rattle.dm_node.specs.NodeStates.{NodeState, NodeAnswer, NodeTells, NodeTellsOctets, NodeTellsAs, node_fed}
-use Rattle.dm_node.specs.NodeSteps.{LeadTo, told_steps, asked_steps, OrderIsSteps, IsOneEvent, TurnIsSteps, HeardIsSteps, AddingIsAStep, RemovingIsAStep}
+use Rattle.dm_node.specs.NodeStates.{NodeState, NodeAnswer, NodeTells, NodeTellsOctets, NodeTellsAs}
+use Rattle.dm_node.specs.NodeSteps.{LeadTo, told_steps, asked_steps, OrderIsSteps, IsOneEvent, TurnIsSteps, AddingIsAStep, RemovingIsAStep}
 use Rattle.dm_node.specs.Policies.{Policy, no_strangers}
 use Rattle.dm_node.specs.Strangers.{Joins, NodeMoves, TellsConcerned, NodeIsTold}
 use Rattle.dm_node.specs.Telling.{PeerIsTold, told_of}
 use Rattle.dm_node.specs.declared.events.NodeEvent.{NodeEvent}
 use Rattle.dm_node.specs.declared.events.NodeEvent.TheVariants as event
-use Rattle.dm_node.specs.declared.node_order.NodeOrder.TheVariants as order
+use Rattle.dm_node.specs.declared.order.Order.TheVariants as order
 use Rattle.dm_slots.specs.Intakes.{is_there}
 use Rattle.dm_node.proofs.Newcomers.{peers_stay}
 use Rattle.dm_node.proofs.NodeKnowing.{unheld_peers}
@@ -122,7 +122,6 @@ order_is_steps (order.Ack c) s t asks h = there (is_there c.0 s.intakes) (event.
 order_is_steps (order.Nack c) s t asks (m, h, shut) =
     behind _ s m t (unheld_peers c m t shut) (there (is_there c.0 s.intakes) (event.Nack c) s m asks h)
 order_is_steps (order.Accept c) s t asks h = nothing None s (node_opened c s) t asks refl refl h
-order_is_steps (order.Octets c piece) s t asks h = nothing None s (node_fed c piece.now s) t asks refl refl h
 order_is_steps (order.Gone c) s t asks (m, h, shut) =
     behind _ s m t (ap (λ (v : NodeState). v.peers) shut) (there (is_there c.0 s.intakes) (event.Gone c) s m asks h)
 order_is_steps (order.Timeout n) s t asks h = once (event.Timeout n) s t asks h
@@ -150,11 +149,6 @@ by_kind policy (Some d) c s answer t (is, h) =
 
 pub turn_is_steps : TurnIsSteps
 turn_is_steps policy c s t turn h = by_kind policy turn.arrived c s turn.answer t h
-
-pub heard_is_steps : HeardIsSteps
-heard_is_steps policy c piece s t turn size h =
-    let one = turn_is_steps policy c (node_fed c h.message s) t turn h.told in
-    record { octets = one.octets; leads = one.leads }
 
 pub adding : AddingIsAStep
 adding ps config past before = added past ps config before

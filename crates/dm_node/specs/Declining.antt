@@ -7,8 +7,8 @@ use Rattle.dm_peer.specs.declared.peer.Peer.{Peer}
 use Rattle.dm_peer.specs.Events.{PeerEvent}
 use Rattle.dm_peer.specs.Refusing.{refusal_of}
 use Rattle.dm_node.specs.declared.events.NodeEvent.{NodeEvent}
-use Rattle.dm_node.specs.declared.fault.EventFault.{EventFault}
-use Rattle.dm_node.specs.declared.fault.EventFault.TheVariants as fault
+use Rattle.dm_node.specs.declared.fault.OrderFault.{OrderFault}
+use Rattle.dm_node.specs.declared.fault.OrderFault.TheVariants as fault
 use Rattle.dm_node.specs.Holding.{peer_at}
 use Rattle.dm_node.specs.Policies.{Policy}
 use Rattle.dm_node.specs.Telling.{told_of, Concerns, IsMisdirected}
@@ -27,31 +27,31 @@ pub record IsDeclined (ps : List (Option Peer)) (i : ℕ) (e : PeerEvent) (f : P
 
 -- nothing is wrong with whom the event names
 abbrev pub IsDirected : List (Option Peer) → NodeEvent → Type 0
-IsDirected ps e = (f : EventFault) → IsMisdirected ps e f → ⊥
+IsDirected ps e = (f : OrderFault) → IsMisdirected ps e f → ⊥
 
 -- but for want of memory the rules alone refuse: the event is misdirected, or the neighbour that it concerns refuses
-abbrev pub IsByRule : Policy → List (Option Peer) → NodeEvent → EventFault → Type 0
+abbrev pub IsByRule : Policy → List (Option Peer) → NodeEvent → OrderFault → Type 0
 IsByRule policy ps e (fault.Peer f) =
     (f ≡ NoMemory) ⊎ ((i : ℕ) × Concerns policy ps e i × IsRuledOut ps i (told_of e) f)
 IsByRule policy ps e f = IsMisdirected ps e f
 
 -- so it is, and want of memory is no reason
-abbrev pub IsDeclinedHere : Policy → List (Option Peer) → NodeEvent → EventFault → Type 0
+abbrev pub IsDeclinedHere : Policy → List (Option Peer) → NodeEvent → OrderFault → Type 0
 IsDeclinedHere policy ps e (fault.Peer f) = (i : ℕ) × Concerns policy ps e i × IsDeclined ps i (told_of e) f
 IsDeclinedHere policy ps e f = IsMisdirected ps e f
 
 -- but for want of memory an event comes to what the rules say: where it isn't misdirected and they refuse it, it is
 -- refused so, and nothing else is
 pub record GoesByRule {A : Type 0} (policy : Policy) (ps : List (Option Peer)) (e : NodeEvent)
-    (result : Result A EventFault) : Type 0 where
+    (result : Result A OrderFault) : Type 0 where
   pub refuses : (i : ℕ) (f : PeerFault) → IsDirected ps e → Concerns policy ps e i → IsRuledOut ps i (told_of e) f
       → result ≡ Err (fault.Peer f)
   pub ruled : IfErr result (IsByRule policy ps e)
 
 -- and where it is misdirected it is refused as such
 pub record GoesByAllRules {A : Type 0} (policy : Policy) (ps : List (Option Peer)) (e : NodeEvent)
-    (result : Result A EventFault) : Type 0 where
-  pub misdirected : (f : EventFault) → IsMisdirected ps e f → result ≡ Err f
+    (result : Result A OrderFault) : Type 0 where
+  pub misdirected : (f : OrderFault) → IsMisdirected ps e f → result ≡ Err f
   pub by_rule : GoesByRule policy ps e result
 
 -- the neighbour that the event concerns sends something at it, or hands something up
@@ -60,8 +60,8 @@ EventTakesMemory policy ps e =
     (i : ℕ) × (p : Peer) × Concerns policy ps e i × (peer_at ps i ≡ Some p) × IsTrue (wants_memory (acts p (told_of e)))
 
 -- this is the fault with which the rules refuse the event
-pub record IsRuleOf (policy : Policy) (ps : List (Option Peer)) (e : NodeEvent) (f : EventFault) : Type 0 where
-  pub misdirected : (g : EventFault) → IsMisdirected ps e g → f ≡ g
+pub record IsRuleOf (policy : Policy) (ps : List (Option Peer)) (e : NodeEvent) (f : OrderFault) : Type 0 where
+  pub misdirected : (g : OrderFault) → IsMisdirected ps e g → f ≡ g
   pub refuses : (i : ℕ) (g : PeerFault) → IsDirected ps e → Concerns policy ps e i → IsRuledOut ps i (told_of e) g
       → f ≡ fault.Peer g
   pub ruled : IsByRule policy ps e f

@@ -1,36 +1,45 @@
--- A whole message on a node's connection that is told where it lies, in the piece that brought it.
-use Rattle.std.specs.Prelude.{◌≡◌, ℕ, Some, IfSome, List, length, take, drop}
+-- What came on a node's connection, heard as it comes: of a piece what the first message wants (RFC 6733, 5.6).
+use Rattle.std.specs.Prelude.{◌≡◌, ◌⊎◌, ℕ, false, Some, List, length, take, drop}
 use Rattle.dm_machine.specs.declared.connection.Conn.{Conn}
+use Rattle.dm_node.specs.NodeKnown.{IsCopied}
+use Rattle.dm_node.specs.NodeStates.{NodeState, NodeTurn, NodeTellsNext, NodeIsOut, TakesMemoryAt, node_fed}
 use Rattle.dm_node.specs.Policies.{Policy}
-use Rattle.dm_slots.specs.Hearing.{IsWholeIn, IsWholeAt, IsNotWhole}
+use Rattle.dm_slots.specs.Hearing.{IsWholeAt, IsNotWhole, TakesFrontAt}
 use Rattle.dm_slots.specs.Intakes.{Intake}
-use Rattle.dm_node.specs.NodeStates.{NodeState, NodeTurn, NodeTellsNext, TakesMemoryAt, node_fed}
 
--- the piece begins with a whole message of connection c, of so many octets, which is told as if just it had come
-pub record NodeHearsWhole (policy : Policy) (c : Conn) (piece : List ℕ) (s : NodeState) (turn : NodeTurn)
-    (size : ℕ) (t : NodeState) : Type 0 where
+-- so many octets of the piece came on connection c, and one turn is told behind them
+abbrev pub NodeHears : Policy → Conn → List ℕ → ℕ → NodeState → NodeTurn → NodeState → Type 0
+NodeHears policy c piece size s turn t = NodeTellsNext policy c (node_fed c (take size piece) s) turn t
+
+-- or the whole piece came, and there is nothing to tell yet
+abbrev pub NodeHearsNothing : Conn → List ℕ → ℕ → NodeState → NodeState → Type 0
+NodeHearsNothing c piece size s t = (size ≡ length piece) × (t ≡ node_fed c piece s) × NodeIsOut c t
+
+-- Octets of the piece are kept before something is told: the connection is there, what comes isn't thrown away, and the
+-- piece doesn't begin with a whole message behind nothing.
+pub record IsKeptFirst (c : Conn) (piece : List ℕ) (s : NodeState) : Type 0 where
   pub intake : Intake
-  pub message : List ℕ
-  pub rest : List ℕ
   pub there : s.intakes c.0 ≡ Some intake
-  pub front : IsWholeIn intake piece message rest
-  pub size_is : size ≡ length message
-  pub arrived : turn.arrived ≡ Some c
-  pub told : NodeTellsNext policy c (node_fed c message s) turn t
+  pub whole : intake.is_broken ≡ false
+  pub not_whole : IsNotWhole intake piece
 
--- that message takes memory to be told
+-- the message with which the piece begins takes memory to be told, or to be copied; or octets are kept first
 abbrev pub NodeHearTakesMemory : Policy → Conn → List ℕ → NodeState → Type 0
 NodeHearTakesMemory policy c piece s =
-    (size : ℕ) × IsWholeAt (s.intakes c.0) piece size × TakesMemoryAt policy c (take size piece) s.peers
+    ((size : ℕ) × IsWholeAt (s.intakes c.0) piece size
+    × (TakesMemoryAt policy c (take size piece) s.peers ⊎ IsCopied policy c (take size piece) s.peers))
+    ⊎ IsKeptFirst c piece s
 
--- nothing can be told where it lies: the connection isn't there, something of it is kept or what comes is thrown away,
--- or the piece begins with no whole message
-abbrev pub NodeHearsNothing : Conn → List ℕ → NodeState → Type 0
-NodeHearsNothing c piece s = IfSome (s.intakes c.0) (λ i. IsNotWhole i piece)
-
--- what is told where it lies is told as if the whole piece had come first
+-- What is heard of a part of a piece is told as if the whole piece had come first, and the rest comes behind it.
 abbrev pub NodeHeardAlike : Type 0
 NodeHeardAlike =
-    (policy : Policy) (c : Conn) (piece : List ℕ) (s t : NodeState) (turn : NodeTurn) (size : ℕ)
-    → NodeHearsWhole policy c piece s turn size t
+    (policy : Policy) (c : Conn) (piece : List ℕ) (size : ℕ) (s t : NodeState) (turn : NodeTurn)
+    → NodeHears policy c piece size s turn t
     → NodeTellsNext policy c (node_fed c piece s) turn (node_fed c (drop size piece) t)
+
+-- Where nothing was left to tell of connection c, nothing is left behind a turn that is heard of a piece but the rest
+-- of that. So who hears each piece until nothing is left of it heard all of it.
+abbrev pub NodeHeardOut : Type 0
+NodeHeardOut =
+    (policy : Policy) (c : Conn) (piece : List ℕ) (size : ℕ) (s t : NodeState) (turn : NodeTurn)
+    → NodeIsOut c s → TakesFrontAt (s.intakes c.0) piece size → NodeHears policy c piece size s turn t → NodeIsOut c t

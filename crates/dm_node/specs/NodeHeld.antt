@@ -1,4 +1,4 @@
--- What holds of the session of a node, whatever is done: each connection that a neighbour holds is there.
+-- What holds of a node, whatever is done: each connection that a neighbour holds is there.
 use Rattle.std.specs.Prelude.{◌≡◌, ℕ, true, Option, Some, List}
 use Rattle.dm_machine.specs.declared.connection.Conn.{Conn}
 use Rattle.dm_node.specs.Holding.{peer_at, holds_at}

@@ -1,6 +1,6 @@
 -- Whom each neighbour of a node met (RFC 6733, 5.3 and 8.16).
 use Rattle.std.specs.Prelude.{◌≡◌, ◌<◌, ℕ, true, false, cond, is_some, nat_lt, Option, None, Some, List, []}
-use Rattle.std.specs.Prelude.{◌∷◌, ◌++◌, length, map, take, option_map, slice_get, slice_set, vec_len, vec_capacity}
+use Rattle.std.specs.Prelude.{◌∷◌, ◌++◌, length, map, option_map, slice_get, slice_set, vec_len, vec_capacity}
 use Rattle.std.specs.Option.{option_flatten}
 use Rattle.dm_machine.specs.declared.connection.Conn.{Conn}
 use Rattle.dm_machine.specs.declared.state_name.State.{State}
@@ -11,7 +11,6 @@ use Rattle.dm_node.specs.Policies.{Policy}
 use Rattle.dm_node.specs.Telling.{IsAddressed}
 use Rattle.dm_peer.specs.declared.peer.Peer.{Peer}
 use Rattle.dm_slots.specs.Acquaintances.{Acquaintance, nobody, spells_exchange, known_at, known_after}
-use Rattle.dm_slots.specs.Hearing.{IsWholeAt}
 use Rattle.dm_slots.specs.Intakes.{Intake, IsFirst}
 use Rattle.dm_node.specs.declared.known.Acquaintances as declared
 use Rattle.dm_node.specs.NodeStates.{NodeState, NodeAnswer, NodeTurn}
@@ -115,9 +114,3 @@ pub record AwaitsExchangeAt (policy : Policy) (c : Conn) (s : NodeState) : Type 
   pub there : s.intakes c.0 ≡ Some intake
   pub first : IsFirst intake message rest
   pub copied : IsCopied policy c message s.peers
-
--- such a message stands first in the piece, and can be told where it lies
-pub record HearsExchangeAt (policy : Policy) (c : Conn) (piece : List ℕ) (s : NodeState) : Type 0 where
-  pub size : ℕ
-  pub whole : IsWholeAt (s.intakes c.0) piece size
-  pub copied : IsCopied policy c (take size piece) s.peers

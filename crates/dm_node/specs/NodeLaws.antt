@@ -1,4 +1,4 @@
--- What holds of a node's session whatever comes (RFC 6733, 5.6).
+-- What holds of a node whatever comes (RFC 6733, 5.6).
 use Rattle.std.specs.Prelude.{◌≡◌, ◌⊎◌, ℕ, true, Option, None, Some, List, [], ◌∷◌}
 use Rattle.dm_machine.specs.declared.connection.Conn.{Conn}
 use Rattle.dm_node.specs.declared.events.NodeEvent.{NodeEvent}
@@ -15,7 +15,7 @@ use Rattle.dm_node.specs.NodeHeld.{AreKept}
 use Rattle.dm_node.specs.NodeStates.{NodeState, NodeAnswer, NodeTurn, NodeTells, NodeTellsNext}
 use Rattle.dm_node.specs.NodeStates.{node_settled, with_node_intakes}
 
--- what holds of the neighbours of each session: no connection is held by two, no two have one host, and each is kept
+-- what holds of the neighbours of each node: no connection is held by two, no two have one host, and each is kept
 pub record AreSoundNeighbours (ps : List (Option Peer)) : Type 0 where
   pub neighbourhood : IsNeighbourhood ps
   pub kept : AreKept ps

@@ -3,8 +3,8 @@ use Rattle.std.specs.Prelude.{◌≡◌, ◌⊎◌, ℕ, cond, true, false, Opti
 use Rattle.dm_machine.specs.declared.connection.Conn.{Conn}
 use Rattle.dm_node.specs.declared.events.NodeEvent.{NodeEvent}
 use Rattle.dm_node.specs.declared.events.NodeEvent.TheVariants as event
-use Rattle.dm_node.specs.declared.fault.EventFault.{EventFault}
-use Rattle.dm_node.specs.declared.fault.EventFault.TheVariants as fault
+use Rattle.dm_node.specs.declared.fault.OrderFault.{OrderFault}
+use Rattle.dm_node.specs.declared.fault.OrderFault.TheVariants as fault
 use Rattle.dm_peer.specs.declared.fault.PeerFault.TheVariants.{NoMemory}
 use Rattle.dm_node.specs.Declining.{IsDeclinedHere, GoesByAllRules, EventTakesMemory}
 use Rattle.dm_node.specs.Emptying.{without_peer, with_set_back, all_set_back}
@@ -16,9 +16,9 @@ use Rattle.dm_peer.specs.declared.actions.Action.TheVariants.{Close}
 use Rattle.dm_peer.specs.declared.peer.Peer.{Peer}
 use Rattle.dm_slots.specs.Intakes.{Intakes, none_there, is_there, opened, taken_down}
 use Rattle.dm_slots.specs.Raised.{own_of, other_of}
-use Rattle.dm_node.specs.declared.node_order.NodeOrder.{NodeOrder}
-use Rattle.dm_node.specs.declared.node_order.NodeOrder.TheVariants as order
-use Rattle.dm_node.specs.NodeStates.{NodeState, NodeAnswer, NodeTells, node_fed, with_node_intakes}
+use Rattle.dm_node.specs.declared.order.Order.{Order}
+use Rattle.dm_node.specs.declared.order.Order.TheVariants as order
+use Rattle.dm_node.specs.NodeStates.{NodeState, NodeAnswer, NodeTells, with_node_intakes}
 
 -- an event is told, and this is what it asks for
 abbrev pub NodeTellsOnce : NodeEvent → NodeState → Option NodeAnswer → NodeState → Type 0
@@ -110,14 +110,13 @@ abbrev pub closes_of_any : Option Peer → List Action
 closes_of_any None = []
 closes_of_any (Some p) = closes_of p
 
--- What an order asks for, None where no event is told, and where it leaves the session. Of a connection that isn't
--- there nothing is told. What came is told message by message, by `NodeTellsNext`.
-abbrev pub NodeTakes : NodeOrder → NodeState → Option NodeAnswer → NodeState → Type 0
+-- What an order asks for, None where no event is told, and where it leaves the node. Of a connection that isn't there
+-- nothing is told.
+abbrev pub NodeTakes : Order → NodeState → Option NodeAnswer → NodeState → Type 0
 NodeTakes (order.Start n c) s asks t = NodeTellsStart n c s asks t
 NodeTakes (order.Ack c) s asks t = NodeTellsIfThere c (event.Ack c) s asks t
 NodeTakes (order.Nack c) s asks t = NodeTellsNack c s asks t
 NodeTakes (order.Accept c) s asks t = NodeTellsNothing (node_opened c s) asks t
-NodeTakes (order.Octets c piece) s asks t = NodeTellsNothing (node_fed c piece.now s) asks t
 NodeTakes (order.Gone c) s asks t = NodeTellsEnd c (event.Gone c) s asks t
 NodeTakes (order.Timeout n) s asks t = NodeTellsOnce (event.Timeout n) s asks t
 NodeTakes (order.Tick n) s asks t = NodeTellsOnce (event.Tick n) s asks t
@@ -127,20 +126,19 @@ NodeTakes (order.Reset n) s asks t = NodeTellsNothing (node_set_back n s) asks t
 NodeTakes order.ResetAll s asks t = NodeTellsNothing (node_closed s) asks t
 
 -- the event is misdirected, or the neighbour that it concerns refuses it
-abbrev pub NodeRefusesOnce : NodeEvent → NodeState → EventFault → Type 0
+abbrev pub NodeRefusesOnce : NodeEvent → NodeState → OrderFault → Type 0
 NodeRefusesOnce e s f = IsDeclinedHere no_strangers s.peers e f
 
 -- the neighbour that holds connection c, which is there, refuses an event of it
-abbrev pub NodeRefusesIfThere : Conn → NodeEvent → NodeState → EventFault → Type 0
+abbrev pub NodeRefusesIfThere : Conn → NodeEvent → NodeState → OrderFault → Type 0
 NodeRefusesIfThere c e s f = (is_there c.0 s.intakes ≡ true) × NodeRefusesOnce e s f
 
 -- Why an order is refused: where its event is. Where none is told there is nothing to refuse.
-abbrev pub NodeRefuses : NodeOrder → NodeState → EventFault → Type 0
+abbrev pub NodeRefuses : Order → NodeState → OrderFault → Type 0
 NodeRefuses (order.Start n c) s f = (is_there c.0 s.intakes ≡ false) × NodeRefusesOnce (event.Start n c) s f
 NodeRefuses (order.Ack c) s f = NodeRefusesIfThere c (event.Ack c) s f
 NodeRefuses (order.Nack c) s f = NodeRefusesIfThere c (event.Nack c) s f
 NodeRefuses (order.Accept c) s f = ⊥
-NodeRefuses (order.Octets c piece) s f = ⊥
 NodeRefuses (order.Gone c) s f = NodeRefusesIfThere c (event.Gone c) s f
 NodeRefuses (order.Timeout n) s f = NodeRefusesOnce (event.Timeout n) s f
 NodeRefuses (order.Tick n) s f = NodeRefusesOnce (event.Tick n) s f
@@ -157,7 +155,7 @@ abbrev pub start_told : ℕ → Conn → NodeState → Option NodeEvent
 start_told n c s = cond (is_there c.0 s.intakes) None (Some (event.Start n c))
 
 -- the event that an order tells, where it tells one
-abbrev pub event_ordered : NodeOrder → NodeState → Option NodeEvent
+abbrev pub event_ordered : Order → NodeState → Option NodeEvent
 event_ordered (order.Start n c) s = start_told n c s
 event_ordered (order.Ack c) s = told_there c (event.Ack c) s
 event_ordered (order.Nack c) s = told_there c (event.Nack c) s
@@ -173,15 +171,14 @@ abbrev pub ToldTakesMemory : Option NodeEvent → NodeState → Type 0
 ToldTakesMemory None s = ⊥
 ToldTakesMemory (Some e) s = EventTakesMemory no_strangers s.peers e
 
--- what an order comes to takes memory: a connection that is new, octets that are kept of one that is there, or what the
--- neighbour sends or hands up that its event concerns
-abbrev pub OrderTakesMemory : NodeOrder → NodeState → Type 0
+-- what an order comes to takes memory: a connection that is new, or what the neighbour sends or hands up that its event
+-- concerns
+abbrev pub OrderTakesMemory : Order → NodeState → Type 0
 OrderTakesMemory (order.Start n c) s = is_there c.0 s.intakes ≡ false
 OrderTakesMemory (order.Accept c) s = is_there c.0 s.intakes ≡ false
-OrderTakesMemory (order.Octets c piece) s = is_there c.0 s.intakes ≡ true
 OrderTakesMemory o s = ToldTakesMemory (event_ordered o s) s
 
 -- but for want of memory an order whose event goes by its rules does too; one that tells none isn't refused
-abbrev pub OrderGoesByRules : {A : Type 0} → Option NodeEvent → NodeState → Result A EventFault → Type 0
+abbrev pub OrderGoesByRules : {A : Type 0} → Option NodeEvent → NodeState → Result A OrderFault → Type 0
 OrderGoesByRules None s result = IfErr result (λ f. f ≡ fault.Peer NoMemory)
 OrderGoesByRules (Some e) s result = GoesByAllRules no_strangers s.peers e result

@@ -1,4 +1,4 @@
--- The session of a node, as definitions see it.
+-- A node, as definitions see it.
 use Rattle.std.specs.Prelude.{Option, List}
 use Rattle.dm_slots.specs.Acquaintances.{Acquaintance}
 use Rattle.dm_slots.specs.Held.{intakes_of}

@@ -13,7 +13,7 @@ use Rattle.dm_peer.specs.declared.peer.Peer.{Peer}
 use Rattle.dm_peer.specs.Acts.{acts, wants_memory}
 use Rattle.dm_peer.specs.Events.{Arrived}
 use Rattle.dm_slots.specs.Intakes.{Intake, Intakes, IsFirst, IsFaulty, IsToldOut, with_intake, changed, fed_intake}
-use Rattle.dm_slots.specs.Intakes.{broken_intake, left_by}
+use Rattle.dm_slots.specs.Intakes.{unfed_intake, broken_intake, left_by}
 use Rattle.dm_slots.specs.Raised.{raised}
 
 -- the node that answers strangers, its neighbours in order of adding, its connections, and the greatest Message Lengths
@@ -45,7 +45,7 @@ abbrev pub raised_for : ℕ → Option Peer → Intakes → Intakes
 raised_for most None f = f
 raised_for most (Some p) f = raised most p f
 
--- the node's session with other intakes, and with other neighbours
+-- the node with other intakes, and with other neighbours
 abbrev pub with_node_intakes : Intakes → NodeState → NodeState
 with_node_intakes f s =
     record { node = s.node; peers = s.peers; intakes = f; first_max = s.first_max; most = s.most }
@@ -54,7 +54,7 @@ abbrev pub with_node_peers : List (Option Peer) → NodeState → NodeState
 with_node_peers qs s =
     record { node = s.node; peers = qs; intakes = s.intakes; first_max = s.first_max; most = s.most }
 
--- the session behind an event that led its neighbours to qs: what the actions close is no more there, and what the
+-- the node behind an event that led its neighbours to qs: what the actions close is no more there, and what the
 -- neighbour that it concerned holds takes longer messages where that is open
 abbrev pub node_settled : Option ℕ → List (Option Peer) → List Action → NodeState → NodeState
 node_settled who qs actions s =
@@ -69,6 +69,10 @@ node_settled who qs actions s =
 -- a piece came on connection c
 abbrev pub node_fed : Conn → List ℕ → NodeState → NodeState
 node_fed c piece s = with_node_intakes (changed c.0 (fed_intake piece) s.intakes) s
+
+-- and so many octets of it are taken away again
+abbrev pub node_unfed : Conn → ℕ → NodeState → NodeState
+node_unfed c n s = with_node_intakes (changed c.0 (unfed_intake n) s.intakes) s
 
 -- The event of an order is told, and this is what it asks for. No policy concerns it, since it brings no octets.
 pub record NodeTells (e : NodeEvent) (s : NodeState) (answer : NodeAnswer) (t : NodeState) : Type 0 where

@@ -9,7 +9,6 @@ use Rattle.dm_peer.specs.Events.{PeerEvent, Arrived}
 use Rattle.dm_node.specs.Adding.{with_new}
 use Rattle.dm_node.specs.Emptying.{without_peer}
 use Rattle.dm_node.specs.Holding.{peer_at}
-use Rattle.dm_node.specs.NodeHearing.{NodeHearsWhole}
 use Rattle.dm_node.specs.NodeHistory.{NodeStep, WasAdded, WasTold, MovedNobody, WasRemoved, WasSetBack, AllWereSetBack}
 use Rattle.dm_node.specs.NodeHistory.{NodeBecame}
 use Rattle.dm_node.specs.NodeOrders.{NodeTakes, event_ordered}
@@ -17,8 +16,8 @@ use Rattle.dm_node.specs.NodeStates.{NodeState, NodeAnswer, NodeTurn, NodeTellsN
 use Rattle.dm_node.specs.Policies.{Policy}
 use Rattle.dm_node.specs.Telling.{told_of}
 use Rattle.dm_node.specs.declared.events.NodeEvent.{NodeEvent}
-use Rattle.dm_node.specs.declared.node_order.NodeOrder.{NodeOrder}
-use Rattle.dm_node.specs.declared.node_order.NodeOrder.TheVariants as order
+use Rattle.dm_node.specs.declared.order.Order.{Order}
+use Rattle.dm_node.specs.declared.order.Order.TheVariants as order
 
 -- whatever happened before, these steps lead on from these neighbours to those
 abbrev pub LeadTo : List NodeStep → List (Option Peer) → List (Option Peer) → Type 0
@@ -37,14 +36,14 @@ asked_steps (Some e) s None = []
 asked_steps (Some e) s (Some answer) = told_steps s.peers answer.neighbour (told_of e) answer.actions
 
 -- an order sets one neighbour back, or each, or is the event that it tells
-abbrev pub order_steps : NodeOrder → NodeState → Option NodeAnswer → List NodeStep
+abbrev pub order_steps : Order → NodeState → Option NodeAnswer → List NodeStep
 order_steps (order.Reset n) s asks = WasSetBack n ∷ []
 order_steps order.ResetAll s asks = AllWereSetBack ∷ []
 order_steps o s asks = asked_steps (event_ordered o s) s asks
 
 abbrev pub OrderIsSteps : Type 0
 OrderIsSteps =
-    (o : NodeOrder) (s t : NodeState) (asks : Option NodeAnswer) → NodeTakes o s asks t
+    (o : Order) (s t : NodeState) (asks : Option NodeAnswer) → NodeTakes o s asks t
     → LeadTo (order_steps o s asks) s.peers t.peers
 
 -- a turn is its message, or at a fault no octets, as an event
@@ -56,12 +55,6 @@ abbrev pub TurnIsSteps : Type 0
 TurnIsSteps =
     (policy : Policy) (c : Conn) (s t : NodeState) (turn : NodeTurn) → NodeTellsNext policy c s turn t
     → IsOneEvent c s turn.answer t
-
--- what is told where it lies too
-abbrev pub HeardIsSteps : Type 0
-HeardIsSteps =
-    (policy : Policy) (c : Conn) (piece : List ℕ) (s t : NodeState) (turn : NodeTurn) (size : ℕ)
-    → NodeHearsWhole policy c piece s turn size t → IsOneEvent c s turn.answer t
 
 abbrev pub AddingIsAStep : Type 0
 AddingIsAStep = (ps : List (Option Peer)) (config : Config) → LeadTo (WasAdded (length ps) ∷ []) ps (with_new ps config)

@@ -13,14 +13,14 @@ NodeTellsAlong policy c s (turn ∷ turns) t =
     (m : NodeState) × NodeTellsNext policy c s turn m × NodeTellsAlong policy c m turns t
 
 -- Whatever cuts a stream: where the first octets are told turn by turn, and then those that come behind them, the turns
--- are a telling of the whole at once, and leave the session alike.
+-- are a telling of the whole at once, and leave the node alike.
 abbrev pub NodeCutsAlike : Type 0
 NodeCutsAlike =
     (policy : Policy) (c : Conn) (piece more : List ℕ) (s m t : NodeState) (first others : List NodeTurn)
     → NodeTellsAlong policy c (node_fed c piece s) first m → NodeTellsAlong policy c (node_fed c more m) others t
     → NodeTellsAlong policy c (node_fed c (piece ++ more) s) (first ++ others) t
 
--- What came on a connection is told out in one way: by the same turns, and the session is the same behind them.
+-- What came on a connection is told out in one way: by the same turns, and the node is the same behind them.
 abbrev pub NodeOneTelling : Type 0
 NodeOneTelling =
     (policy : Policy) (c : Conn) (s t u : NodeState) (turns others : List NodeTurn) → AreSoundNeighbours s.peers
@@ -28,7 +28,7 @@ NodeOneTelling =
     → (turns ≡ others) × (t ≡ u)
 
 -- However a stream is cut in two: where the first piece is told, and behind it the second is told out, the turns are,
--- in order, those of the whole told out at once, and the session is the same behind them.
+-- in order, those of the whole told out at once, and the node is the same behind them.
 abbrev pub NodeCutsToldOut : Type 0
 NodeCutsToldOut =
     (policy : Policy) (c : Conn) (piece more : List ℕ) (s m t u : NodeState) (first others whole : List NodeTurn)

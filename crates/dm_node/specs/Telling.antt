@@ -1,5 +1,5 @@
 -- What an event does to the neighbours: what it does to a peer, at the one that it concerns.
-use Rattle.std.specs.Prelude.{◌≡◌, ◌⊎◌, ℕ, true, false, Option, None, Some, IsSome, IfSome, IfNone, List, length}
+use Rattle.std.specs.Prelude.{◌≡◌, ◌⊎◌, ℕ, true, false, Option, None, Some, IsSome, IfSome, IfNone, List, length, ⊤}
 use Rattle.dm_base.specs.Before.{lower}
 use Rattle.dm_machine.specs.declared.connection.Conn.{Conn}
 use Rattle.dm_peer.specs.declared.actions.Action.{Action}
@@ -9,8 +9,8 @@ use Rattle.dm_peer.specs.Events.{PeerEvent, Start, Stop, Timeout, Tick, Ack, Nac
 use Rattle.dm_peer.specs.Acts.{Moved, acts, IsRefused}
 use Rattle.dm_node.specs.declared.events.NodeEvent.{NodeEvent}
 use Rattle.dm_node.specs.declared.events.NodeEvent.TheVariants as event
-use Rattle.dm_node.specs.declared.fault.EventFault.{EventFault}
-use Rattle.dm_node.specs.declared.fault.EventFault.TheVariants as fault
+use Rattle.dm_node.specs.declared.fault.OrderFault.{OrderFault}
+use Rattle.dm_node.specs.declared.fault.OrderFault.TheVariants as fault
 use Rattle.dm_peer.specs.declared.fault.PeerFault.TheVariants.{NoMemory}
 use Rattle.dm_node.specs.Calling.{Caller, caller_of}
 use Rattle.dm_node.specs.Holding.{peer_at, holds_at, host_at}
@@ -58,6 +58,11 @@ told_of (event.Gone c) = Gone c
 abbrev pub IsFree : List (Option Peer) → Conn → Type 0
 IsFree ps c = (j : ℕ) → holds_at ps c j ≡ false
 
+-- a Start is of a connection that nobody holds: a number that is in use isn't started
+abbrev pub StartsFree : List (Option Peer) → NodeEvent → Type 0
+StartsFree ps (event.Start n c) = IsFree ps c
+StartsFree ps _ = ⊤
+
 -- the octets are the CER of the host of the neighbour of this number
 abbrev pub IsCallOf : List (Option Peer) → List ℕ → ℕ → Type 0
 IsCallOf ps s i = (call : Caller) × (caller_of s ≡ Some call) × (host_at ps i ≡ Some (lower call.1))
@@ -100,15 +105,13 @@ pub record IsWhose (policy : Policy) (ps : List (Option Peer)) (e : NodeEvent) (
   pub alone : IfSome who (IsAlone ps (told_of e))
 
 -- no neighbour has the number
-abbrev pub IsNobody : List (Option Peer) → ℕ → EventFault → Type 0
+abbrev pub IsNobody : List (Option Peer) → ℕ → OrderFault → Type 0
 IsNobody ps n fault.NoNeighbour = peer_at ps n ≡ None
 IsNobody ps n _ = ⊥
 
--- why an event is misdirected: a Start names a connection that is held, else no neighbour has its number; so of the
--- others that name a neighbour
-abbrev pub IsMisdirected : List (Option Peer) → NodeEvent → EventFault → Type 0
-IsMisdirected ps (event.Start n c) fault.Held = (i : ℕ) × (holds_at ps c i ≡ true)
-IsMisdirected ps (event.Start n c) fault.NoNeighbour = (peer_at ps n ≡ None) × IsFree ps c
+-- why an event is misdirected: no neighbour has the number that it names
+abbrev pub IsMisdirected : List (Option Peer) → NodeEvent → OrderFault → Type 0
+IsMisdirected ps (event.Start n c) f = IsNobody ps n f
 IsMisdirected ps (event.Stop n cause) f = IsNobody ps n f
 IsMisdirected ps (event.Timeout n) f = IsNobody ps n f
 IsMisdirected ps (event.Tick n) f = IsNobody ps n f
@@ -122,7 +125,7 @@ IsStrangeCer _ = ⊥
 
 -- why the node refuses: the event is misdirected, the neighbour that it concerns refuses, or memory is wanted for the
 -- answer to a stranger's CER
-abbrev pub IsRefusedHere : Policy → List (Option Peer) → NodeEvent → EventFault → Type 0
+abbrev pub IsRefusedHere : Policy → List (Option Peer) → NodeEvent → OrderFault → Type 0
 IsRefusedHere policy ps e (fault.Peer f) =
     ((i : ℕ) × Concerns policy ps e i × IsRefusedBy ps i (told_of e) f)
     ⊎ ((f ≡ NoMemory) × ((i : ℕ) → Concerns policy ps e i → ⊥) × IsStrangeCer e)

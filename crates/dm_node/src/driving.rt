@@ -3,15 +3,15 @@ ghost use Rattle.std.specs.Prelude.{◌≡◌, ◌⊎◌, ℕ, [], Some, Err, Al
 ghost use Rattle.dm_node.specs.Declining.{IsDeclinedHere, IsRuledOut, IsDirected, IsByRule, IsRuleOf, IsUnruled};
 ghost use Rattle.dm_node.specs.Declining.{GoesByAllRules, EventTakesMemory};
 ghost use Rattle.dm_node.specs.Policies.{no_strangers};
-ghost use Rattle.dm_node.specs.Telling.{Concerns, IsFree, IsMisdirected, IsStrangeCer, told_of};
+ghost use Rattle.dm_node.specs.Telling.{Concerns, IsMisdirected, IsStrangeCer, StartsFree, told_of};
 ghost use Rattle.dm_node.specs.declared.events.NodeEvent.{NodeEvent as OneEvent};
-ghost use Rattle.dm_node.specs.declared.fault.EventFault.{EventFault};
+ghost use Rattle.dm_node.specs.declared.fault.OrderFault.{OrderFault};
 ghost use Rattle.dm_peer.specs.Refusing.{start_refusal};
 ghost use Rattle.dm_peer.specs.Spelled.{SendsSpelling};
 ghost use Rattle.dm_peer.specs.declared.fault.PeerFault.{PeerFault};
 ghost use Rattle.dm_node.specs.NodeOrders.{event_ordered, told_there, start_told};
 ghost use Rattle.dm_node.specs.NodeOrders.{ToldTakesMemory, OrderTakesMemory, OrderGoesByRules};
-ghost use Rattle.dm_node.specs.declared.fault.EventFault.TheVariants as faults;
+ghost use Rattle.dm_node.specs.declared.fault.OrderFault.TheVariants as faults;
 ghost use Rattle.dm_peer.specs.declared.fault.PeerFault.TheVariants as peer_faults;
 ghost use Rattle.dm_slots.specs.Naming.{NamesThere, NamesAtMost};
 ghost use Rattle.dm_node.specs.NodeOrders.{NodeTakes, NodeTellsOnce, NodeTellsIfThere, NodeTellsStart};
@@ -22,10 +22,10 @@ ghost use Rattle.std.specs.Option.{option_map};
 ghost use Rattle.dm_node.specs.NodeSeen.{node_state_of, node_known_of};
 ghost use Rattle.dm_node.specs.Answers.{IsUntold, asks_of};
 
-use crate::meeting::tell_event;
 use crate::neighbours::neighbours_are_apart;
-use crate::owners::reown;
-use crate::{Answer, EventFault, Node, NodeEvent, NodeOrder, Told};
+use crate::settling::settle;
+use crate::telling::tell_event;
+use crate::{Answer, Node, NodeEvent, Order, OrderFault, Told};
 use dm_machine::{Conn, State};
 use dm_peer::laws::{each_event_names_what_it_takes, refusals_go_by_rule};
 use dm_peer::{Peer, PeerFault};
@@ -33,12 +33,12 @@ use dm_slots::laws::what_is_there_stays;
 use std::alloc::Global;
 
 /// Why a Start is refused at the peer, if it is.
-fn start_rule(peer: &Peer) -> Option<EventFault>
+fn start_rule(peer: &Peer) -> Option<OrderFault>
     ensures { result ≡ option_map faults.Peer (start_refusal peer.now.standing.core.state) }
 {
     match peer.state() {
         State::Closed => None,
-        _ => Some(EventFault::Peer(PeerFault::NotClosed)),
+        _ => Some(OrderFault::Peer(PeerFault::NotClosed)),
     }
 }
 
@@ -46,33 +46,31 @@ impl Node {
     ghost use Rattle.dm_node.specs.declared.events.NodeEvent.TheVariants.{Start, Nack, Gone};
     ghost use Rattle.dm_slots.specs.Intakes.{is_there};
 
-    /// Takes an order: `answer` says what it asks for, and of which neighbour, or that no event is told. What came on a
-    /// connection is told message by message by [`Node::next`]. Where the neighbour wasn't open and is open
-    /// behind the event, which ends an election (RFC 6733, 5.6.4), what is known of it is from then on the CER that
-    /// waited; else what is known stays, also where the neighbour begins anew.
+    /// Takes an order: `answer` says what it asks for, and of which neighbour, or that no event is told. What comes on
+    /// a connection is heard by [`Node::hear`]. Where the neighbour wasn't open and is open behind the event, which
+    /// ends an election (RFC 6733, 5.6.4), what is known of it is from then on the CER that waited; else what is known
+    /// stays, also where the neighbour begins anew.
     ///
     /// # Errors
-    /// `NoNeighbour` for a number that no neighbour has, what the neighbour's peer refuses, and `NoMemory`; never
-    /// `Held`, since a number in use isn't started. The node is as it was after each, and the order can be told
-    /// again.
+    /// `NoNeighbour` for a number that no neighbour has, what the neighbour's peer refuses, and `NoMemory`. The node is
+    /// as it was after each, and the order can be told again.
     pub fn order(
         &mut self,
         alloc: Global,
-        order: NodeOrder<'_>,
+        order: Order<'_>,
         answer: &mut Answer,
-    ) -> Result<(), EventFault>
+    ) -> Result<(), OrderFault>
         ensures taken { OnOk result (NodeTakes order.entry (node_state_of self.old) (asks_of answer.new)
             (node_state_of self.new)) }
         ensures refused { IfErr result (λ fault. (fault ≡ faults.Peer peer_faults.NoMemory)
             ⊎ NodeRefuses order.entry (node_state_of self.old) fault) }
-        ensures unheld { IfErr result (λ fault. fault ≡ faults.Held → ⊥) }
         ensures unchanged { OnErr result (node_state_of self.new ≡ node_state_of self.old) }
         ensures met { OnOk result (KnownAfterOrder (asks_of answer.new) (node_state_of self.old)
             (node_state_of self.new) (node_known_of self.old) (node_known_of self.new)) }
         ensures same { OnErr result (node_known_of self.new ≡ node_known_of self.old) }
         // But for want of memory an order whose event is misdirected, or is ruled out at the neighbour that it
         // concerns, is refused so, and no other is.
-        ensures misdirected { (e : OneEvent) (f : EventFault)
+        ensures misdirected { (e : OneEvent) (f : OrderFault)
             → event_ordered order.entry (node_state_of self.old) ≡ Some e
             → IsMisdirected (node_state_of self.old).peers e f → result ≡ Err f }
         ensures refuses { (e : OneEvent) (i : ℕ) (f : PeerFault)
@@ -82,8 +80,7 @@ impl Node {
         ensures ruled { IfErr result (λ f. (f ≡ faults.Peer peer_faults.NoMemory)
             ⊎ ((e : OneEvent) × (event_ordered order.entry (node_state_of self.old) ≡ Some e)
             × IsByRule no_strangers (node_state_of self.old).peers e f)) }
-        // Memory is wanted only for a connection that is new, for octets that are kept, and for what the neighbour
-        // sends or hands up.
+        // Memory is wanted only for a connection that is new, and for what the neighbour sends or hands up.
         ensures memory { result ≡ Err (faults.Peer peer_faults.NoMemory)
             → OrderTakesMemory order.entry (node_state_of self.old) }
         // The octets of each Send spell a message.
@@ -103,9 +100,9 @@ impl Node {
     fn drive(
         &mut self,
         alloc: Global,
-        order: NodeOrder<'_>,
+        order: Order<'_>,
         answer: &mut Answer,
-    ) -> Result<(), EventFault>
+    ) -> Result<(), OrderFault>
         requires { IsUntold answer.old }
         ensures taken { OnOk result (NodeTakes order.entry (node_state_of self.old) (asks_of answer.new)
             (node_state_of self.new)) }
@@ -122,33 +119,29 @@ impl Node {
         ensures spelled { OnOk result (All SendsSpelling answer.new.actions.items) }
     {
         match order {
-            NodeOrder::Start(index, conn) => self.start(alloc, index, conn, answer),
-            NodeOrder::Ack(conn) => self.tell_there(alloc, conn, NodeEvent::Ack(conn), answer),
-            NodeOrder::Nack(conn) => self.nack(alloc, conn, answer),
-            NodeOrder::Accept(conn) => match self.open(alloc, conn) {
+            Order::Start(index, conn) => self.start(alloc, index, conn, answer),
+            Order::Ack(conn) => self.tell_there(alloc, conn, NodeEvent::Ack(conn), answer),
+            Order::Nack(conn) => self.nack(alloc, conn, answer),
+            Order::Accept(conn) => match self.open(alloc, conn) {
                 Ok(()) => Ok(()),
-                Err(_) => Err(EventFault::Peer(PeerFault::NoMemory)),
+                Err(_) => Err(OrderFault::Peer(PeerFault::NoMemory)),
             },
-            NodeOrder::Octets(conn, piece) => match self.feed(conn, piece) {
-                Ok(()) => Ok(()),
-                Err(_) => Err(EventFault::Peer(PeerFault::NoMemory)),
-            },
-            NodeOrder::Gone(conn) => self.gone(alloc, conn, answer),
-            NodeOrder::Timeout(index) => self.tell_once(alloc, NodeEvent::Timeout(index), answer),
-            NodeOrder::Tick(index) => self.tell_once(alloc, NodeEvent::Tick(index), answer),
-            NodeOrder::Stop(index, cause) => self.tell_once(
+            Order::Gone(conn) => self.gone(alloc, conn, answer),
+            Order::Timeout(index) => self.tell_once(alloc, NodeEvent::Timeout(index), answer),
+            Order::Tick(index) => self.tell_once(alloc, NodeEvent::Tick(index), answer),
+            Order::Stop(index, cause) => self.tell_once(
                 alloc,
                 NodeEvent::Stop(index, cause),
                 answer,
             ),
-            NodeOrder::Submit(index, octets) => {
+            Order::Submit(index, octets) => {
                 self.tell_once(alloc, NodeEvent::Submit(index, octets), answer)
             }
-            NodeOrder::Reset(index) => {
+            Order::Reset(index) => {
                 self.set_back(index);
                 Ok(())
             }
-            NodeOrder::ResetAll => {
+            Order::ResetAll => {
                 self.set_back_all();
                 Ok(())
             }
@@ -161,9 +154,10 @@ impl Node {
         alloc: Global,
         event: NodeEvent<'_>,
         answer: &mut Answer,
-    ) -> Result<(), EventFault>
+    ) -> Result<(), OrderFault>
         requires there { NamesThere (told_of event) (node_state_of self.old).intakes }
         requires calm { IsStrangeCer event → ⊥ }
+        requires free { StartsFree (node_state_of self.old).peers event }
         requires none { answer.old.actions.items ≡ [] }
         ensures told { OnOk result (NodeTellsOnce event.entry (node_state_of self.old)
             (asks_of answer.new) (node_state_of self.new)) }
@@ -188,13 +182,13 @@ impl Node {
             answer,
         ) {
             Ok(before) => {
-                reown(
+                settle(
                     &self.neighbours,
                     &mut self.intakes,
                     before,
-                    answer.neighbour,
+                    self.most,
+                    answer,
                 );
-                self.settle(answer);
                 answer.told = Told::Event;
                 Ok(())
             }
@@ -209,9 +203,10 @@ impl Node {
         conn: Conn,
         event: NodeEvent<'_>,
         answer: &mut Answer,
-    ) -> Result<(), EventFault>
+    ) -> Result<(), OrderFault>
         requires conn { NamesAtMost (told_of event) conn }
         requires calm { IsStrangeCer event → ⊥ }
+        requires free { StartsFree (node_state_of self.old).peers event }
         requires empty { IsUntold answer.old }
         ensures told { OnOk result (NodeTellsIfThere conn event.entry (node_state_of self.old)
             (asks_of answer.new) (node_state_of self.new)) }
@@ -246,7 +241,7 @@ impl Node {
     }
 
     /// Tells that the connection can't be made. It is no more there then, but where it was made already.
-    fn nack(&mut self, alloc: Global, conn: Conn, answer: &mut Answer) -> Result<(), EventFault>
+    fn nack(&mut self, alloc: Global, conn: Conn, answer: &mut Answer) -> Result<(), OrderFault>
         requires { IsUntold answer.old }
         ensures told { OnOk result (NodeTellsNack conn (node_state_of self.old)
             (asks_of answer.new) (node_state_of self.new)) }
@@ -272,7 +267,7 @@ impl Node {
     }
 
     /// Tells the end of the connection, which is no more there then.
-    fn gone(&mut self, alloc: Global, conn: Conn, answer: &mut Answer) -> Result<(), EventFault>
+    fn gone(&mut self, alloc: Global, conn: Conn, answer: &mut Answer) -> Result<(), OrderFault>
         requires { IsUntold answer.old }
         ensures told { OnOk result (NodeTellsEnd conn (Gone conn) (node_state_of self.old)
             (asks_of answer.new) (node_state_of self.new)) }
@@ -299,10 +294,9 @@ impl Node {
         }
     }
 
-    /// Why the rules refuse a Start of the connection, which nobody holds, if they do: nobody has the number, or the
-    /// neighbour isn't Closed.
-    fn start_fault(&self, index: usize, conn: Conn) -> Option<EventFault>
-        requires { IsFree (node_state_of self.now).peers conn }
+    /// Why the rules refuse a Start of the connection, if they do: nobody has the number, or the neighbour isn't
+    /// Closed.
+    fn start_fault(&self, index: usize, conn: Conn) -> Option<OrderFault>
         ensures declined { IfSome result (IsDeclinedHere no_strangers (node_state_of self.now).peers
             (Start index conn)) }
         ensures rule { IfSome result (IsRuleOf no_strangers (node_state_of self.now).peers (Start index conn)) }
@@ -311,7 +305,7 @@ impl Node {
         refusals_go_by_rule();
         match self.neighbours.peer(index) {
             Some(peer) => start_rule(peer),
-            None => Some(EventFault::NoNeighbour),
+            None => Some(OrderFault::NoNeighbour),
         }
     }
 
@@ -322,7 +316,7 @@ impl Node {
         index: usize,
         conn: Conn,
         answer: &mut Answer,
-    ) -> Result<(), EventFault>
+    ) -> Result<(), OrderFault>
         requires { IsUntold answer.old }
         ensures told { OnOk result (NodeTellsStart index conn (node_state_of self.old)
             (asks_of answer.new) (node_state_of self.new)) }
@@ -354,7 +348,7 @@ impl Node {
                     Err(fault)
                 }
             },
-            Err(_) => Err(EventFault::Peer(PeerFault::NoMemory)),
+            Err(_) => Err(OrderFault::Peer(PeerFault::NoMemory)),
         }
     }
 }

@@ -2,15 +2,12 @@
 use dm_peer::PeerFault;
 use thiserror::Error;
 
-/// Why an event was refused. The neighbours are as they were.
+/// Why an order was refused. The node is as it was.
 #[derive(Clone, Copy, Debug, PartialEq, Eq, Error)]
-pub enum EventFault {
+pub enum OrderFault {
     /// There is no neighbour of this number.
     #[error("no such neighbour")]
     NoNeighbour,
-    /// A Start under the number of a connection that a neighbour holds.
-    #[error("the connection is in use")]
-    Held,
     /// The neighbour's peer refused it.
     #[error("the neighbour refused")]
     Peer(PeerFault),

@@ -1,11 +1,12 @@
 //! Which neighbour has a host, by the host in lower case.
 ghost use Rattle.std.specs.Prelude.{◌≡◌, ◌<◌, ◌≤◌, ℕ, nat_le, List, None, Some, IfSome, IfNone, OnOk, OnErr};
 ghost use Rattle.std.specs.Prelude.{length, if◌then◌else◌};
-ghost use Rattle.dm_base.specs.Before.{lower, lower_octet};
+ghost use Rattle.dm_base.specs.Before.{lower};
 ghost use Rattle.dm_base.specs.Codes.{max_name_len};
 ghost use Rattle.dm_node.specs.Naming.{is_host, noted_number, IsForgotten};
 
 use arrayvec::ArrayVec;
+use dm_base::lower_octet;
 use dm_dict::NoMemory;
 use dm_peer::Peer;
 use indexmap::IndexMap;
@@ -19,16 +20,6 @@ const MAX_NAME: usize = 255;
 pub(crate) struct Hosts {
     alloc: Global,
     map: IndexMap<Vec<u8>, usize>,
-}
-
-fn lower_octet(octet: u8) -> u8
-    ensures { result ≡ lower_octet octet }
-{
-    if octet >= 65 && octet <= 90 {
-        octet + 32
-    } else {
-        octet
-    }
 }
 
 /// The host in lower case, where it isn't too long for one. It never answers want of memory.

@@ -3,12 +3,13 @@ ghost use Rattle.dm_node.specs.Neighbourhoods.{IsNeighbourhood};
 ghost use Rattle.dm_node.specs.NodeHistory.{EachNeighbourHasItsHistory};
 ghost use Rattle.dm_node.specs.OneConcerned.{OneIsConcerned};
 ghost use Rattle.dm_node.specs.NodeEnding.{NodeCloseIsLast, NodeGoneIsSilent, NodeGoneTellsNothing};
-ghost use Rattle.dm_node.specs.NodeHearing.{NodeHeardAlike};
+ghost use Rattle.dm_node.specs.NodeEnding.{NodeGoneKeepsNothing};
+ghost use Rattle.dm_node.specs.NodeHearing.{NodeHeardAlike, NodeHeardOut};
 ghost use Rattle.dm_node.specs.NodeHeld.{AllHeldAreThere};
 ghost use Rattle.dm_node.specs.NodeLaws.{AreSoundNeighbours, EventLeavesOthers, NextLeavesOthers};
 ghost use Rattle.dm_node.specs.NodeLaws.{OneDoesAsItsPeer, OneTurnsAsItsPeer, ConcernedTurnsAsItsPeer};
 ghost use Rattle.dm_node.specs.NodeSeen.{node_state_of};
-ghost use Rattle.dm_node.specs.NodeSteps.{OrderIsSteps, TurnIsSteps, HeardIsSteps, AddingIsAStep, RemovingIsAStep};
+ghost use Rattle.dm_node.specs.NodeSteps.{OrderIsSteps, TurnIsSteps, AddingIsAStep, RemovingIsAStep};
 ghost use Rattle.dm_node.specs.NodeStreams.{NodeCutsAlike, NodeOneTelling, NodeCutsToldOut, NodePiecesToldOut};
 
 use crate::{Node, neighbours};
@@ -41,12 +42,10 @@ pub fn each_neighbour_has_its_history()
 }
 
 /// Each call of a node is a step of its history, or none, or two where a host is taken in: an order, a turn of what
-/// came, a message that is told where it lies, a neighbour more and one less. So what is said of each history of a node
-/// holds behind each list of calls.
+/// came, a neighbour more and one less. So what is said of each history of a node holds behind each list of calls.
 pub fn calls_are_steps()
     ensures order { OrderIsSteps }
     ensures turn { TurnIsSteps }
-    ensures heard { HeardIsSteps }
     ensures added { AddingIsAStep }
     ensures removed { RemovingIsAStep }
 {}
@@ -81,17 +80,20 @@ pub fn others_are_left_alone()
 }
 
 /// A node of one neighbour is its peer: at an order's event it does what that does, and with `Alone` each turn of what
-/// came is one of its peer's session, also of what a stranger sends, and of a fault. By any other policy so is each
-/// turn of the neighbour.
+/// came is one of its peer's, also of what a stranger sends, and of a fault. By any other policy so is each turn of the
+/// neighbour.
 pub fn one_is_its_peer()
     ensures event { OneDoesAsItsPeer }
     ensures octets { OneTurnsAsItsPeer }
     ensures concerned { ConcernedTurnsAsItsPeer }
 {}
 
-/// A message that is told where it lies is told as if the whole piece had been kept first, whatever the policy.
+/// What is heard of a piece is told as if the whole piece had been kept first, and what is left of it came behind,
+/// whatever the policy. And where nothing was left to tell of the connection, nothing is left then but that rest of the
+/// piece: so who hears each piece until nothing is left of it heard all of it.
 pub fn heard_alike()
-    ensures { NodeHeardAlike }
+    ensures turn { NodeHeardAlike }
+    ensures out { NodeHeardOut }
 {
     one_front();
 }
@@ -121,4 +123,5 @@ pub fn closed_is_down()
     ensures close { NodeCloseIsLast }
     ensures order { NodeGoneIsSilent }
     ensures octets { NodeGoneTellsNothing }
+    ensures piece { NodeGoneKeepsNothing }
 {}

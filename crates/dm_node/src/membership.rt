@@ -1,6 +1,6 @@
 //! Neighbours that come, go, or begin anew, with the connections that they hold.
-ghost use Rattle.std.specs.Prelude.{◌≡◌, ◌⊎◌, ◌↔◌, ◌++◌, ℕ, true, false, Option, None, length};
-ghost use Rattle.std.specs.Prelude.{IsErrOf, OnOk, OnErr, IfOk, IfErr, option_map, ◌<◌, if◌then◌else◌};
+ghost use Rattle.std.specs.Prelude.{◌≡◌, ◌⊎◌, ◌↔◌, ◌++◌, ℕ, true, false, Option, None, Some, length, is_some};
+ghost use Rattle.std.specs.Prelude.{IsErrOf, OnOk, OnErr, IfOk, IfErr, ◌<◌, if◌then◌else◌};
 ghost use Rattle.dm_machine.specs.declared.connection.Conn.{Conn};
 ghost use Rattle.dm_node.specs.Adding.{with_new};
 ghost use Rattle.dm_node.specs.Emptying.{with_set_back, all_set_back};
@@ -10,7 +10,8 @@ ghost use Rattle.dm_peer.specs.Places.{is_on};
 ghost use Rattle.dm_peer.specs.declared.peer.Peer.{Peer};
 ghost use Rattle.dm_slots.specs.Held.{intakes_of, owners_of};
 ghost use Rattle.dm_node.specs.Owning.{has};
-ghost use Rattle.dm_node.specs.NodeOrders.{left_by_peer, close_if_any, closes_of};
+ghost use Rattle.dm_node.specs.NodeOrders.{left_by_peer, close_if_any, closes_of_any};
+ghost use Rattle.dm_node.specs.declared.answer.Told.TheVariants.{Nothing};
 ghost use Rattle.dm_node.specs.NodeOrders.{node_set_back, node_closed, node_without};
 ghost use Rattle.dm_node.specs.NodeHeld.{AreKept};
 ghost use Rattle.dm_node.specs.NodeKnown.{known_of, with_nobody, without_known};
@@ -18,18 +19,17 @@ ghost use Rattle.dm_node.specs.NodeSeen.{node_state_of, node_known_of};
 ghost use Rattle.dm_node.specs.NodeStates.{with_node_peers};
 
 use crate::known::Acquaintances;
-use crate::moving::look_at;
 use crate::neighbours::{Neighbours, neighbours_are_apart};
 use crate::owners::Holding;
-use crate::{AddFault, Node};
-use arrayvec::ArrayVec;
+use crate::telling::look_at;
+use crate::{AddFault, Answer, Node};
 use dm_machine::Conn;
 use dm_peer::laws::{each_event_keeps_settled, each_send_is_spelled};
 use dm_peer::{Action, Actions, Config};
-use dm_slots::Intakes;
+use dm_slots::Slots;
 
 /// The connection, if it is one, is no more there.
-fn shut_if_any(intakes: &mut Intakes, conn: Option<Conn>)
+fn shut_if_any(intakes: &mut Slots, conn: Option<Conn>)
     ensures owners { (c : Conn) → owners_of intakes.new c.0
         ≡ (if is_on conn c then None else owners_of intakes.old c.0) }
     ensures shut { (c : ℕ) → intakes_of intakes.new c
@@ -41,7 +41,7 @@ fn shut_if_any(intakes: &mut Intakes, conn: Option<Conn>)
 }
 
 /// What is held is no more there.
-fn shut_held(intakes: &mut Intakes, held: Holding)
+fn shut_held(intakes: &mut Slots, held: Holding)
     ensures owners { (c : Conn) → owners_of intakes.new c.0
         ≡ (if has held c then None else owners_of intakes.old c.0) }
     ensures shut { (p : Option Peer) → ((c : Conn) → has held c ≡ holds_it c p)
@@ -59,16 +59,6 @@ fn push_close(actions: &mut Actions, conn: Option<Conn>)
     if let Some(conn) = conn {
         actions.push(Action::Close(conn));
     }
-}
-
-/// What is held is closed.
-fn closes(held: Holding) -> Actions
-    ensures { result.items ≡ close_if_any held.initiated ++ close_if_any held.accepted }
-{
-    let mut actions = ArrayVec::new();
-    push_close(&mut actions, held.initiated);
-    push_close(&mut actions, held.accepted);
-    actions
 }
 
 /// Adds a closed neighbour of this configuration, for whom there is a place.
@@ -182,23 +172,32 @@ impl Node {
         }
     }
 
-    /// Takes the neighbour of this number out, where there is one, and answers what is to be closed: what it held,
-    /// which is no more there. Its number stays unused, whom it met is forgotten, and the others keep theirs. It never
-    /// answers want of memory.
-    pub fn remove(&mut self, index: usize) -> Option<Actions>
-        ensures closes { option_map (λ actions. actions.items) result
-            ≡ option_map closes_of (peer_at (node_state_of self.old).peers index) }
+    /// Takes the neighbour of this number out, and answers whether there was one. `answer` says of which neighbour it
+    /// is, and asks for a Close of what this one held, which is no more there. Its number stays unused, whom it met is
+    /// forgotten, and the others keep theirs. It never answers want of memory.
+    pub fn remove(&mut self, index: usize, answer: &mut Answer) -> bool
+        ensures there { result ≡ is_some (peer_at (node_state_of self.old).peers index) }
+        ensures told { answer.new.told ≡ Nothing }
+        ensures neighbour { answer.new.neighbour
+            ≡ (if is_some (peer_at (node_state_of self.old).peers index) then Some index else None) }
+        ensures closes { answer.new.actions.items ≡ closes_of_any (peer_at (node_state_of self.old).peers index) }
         ensures without { node_state_of self.new ≡ node_without index (node_state_of self.old) }
         ensures forgotten { node_known_of self.new ≡ without_known (node_known_of self.old) index }
     {
         neighbours_are_apart(&self.neighbours);
+        answer.clear();
         let held = self.neighbours.holding(index);
         let gone = self.neighbours.remove(index);
         self.known.forget(index);
         shut_held(&mut self.intakes, held);
+        push_close(&mut answer.actions, held.initiated);
+        push_close(&mut answer.actions, held.accepted);
         match gone {
-            Some(_) => Some(closes(held)),
-            None => None,
+            Some(_) => {
+                answer.neighbour = Some(index);
+                true
+            }
+            None => false,
         }
     }
 

@@ -2,15 +2,15 @@
 ghost use Rattle.dm_node.specs.Neighbourhoods.{IsNeighbourhood};
 
 use crate::looking::peer_at;
+use crate::one_told::tell_one_into;
 use crate::owners::{Holding, holding_at};
 use crate::roster::Roster;
 use crate::routing::whose;
-use crate::telling::tell_one_into;
 use crate::unknown::tell_unknown;
-use crate::{AddFault, Answer, EventFault, NodeEvent, Strangers};
+use crate::{AddFault, Answer, NodeEvent, OrderFault, Strangers};
 use dm_base::Node;
 use dm_peer::{Config, Conn, Peer, State};
-use dm_slots::Intakes;
+use dm_slots::Slots;
 use std::alloc::Global;
 use std::marker::Model;
 use std::slice;
@@ -53,9 +53,9 @@ impl Neighbours {
     ghost use Rattle.dm_node.specs.Owning.{has, AreOwned};
     ghost use Rattle.dm_slots.specs.Held.{owners_of};
     ghost use Rattle.dm_node.specs.Strangers.{NodeIsTold};
-    ghost use Rattle.dm_node.specs.Telling.{IsWhose, IsMisdirected, IsRefusedHere};
+    ghost use Rattle.dm_node.specs.Telling.{IsWhose, IsMisdirected, IsRefusedHere, StartsFree};
     ghost use Rattle.dm_node.specs.declared.fault.AddFault.TheVariants.{Known, NoMemory};
-    ghost use Rattle.dm_node.specs.declared.fault.EventFault.{EventFault};
+    ghost use Rattle.dm_node.specs.declared.fault.OrderFault.{OrderFault};
 
     /// No neighbours. The node answers strangers. It never answers want of memory.
     pub(crate) fn new(alloc: Global, node: Node) -> Neighbours
@@ -158,14 +158,15 @@ impl Neighbours {
     #[inline(always)]
     pub(crate) fn whose<S: Strangers>(
         &self,
-        slots: &Intakes,
+        slots: &Slots,
         strangers: &S,
         event: NodeEvent<'_>,
-    ) -> Result<Option<usize>, EventFault>
-        requires { AreOwned (owners_of slots.now) self.now.peers }
+    ) -> Result<Option<usize>, OrderFault>
+        requires owned { AreOwned (owners_of slots.now) self.now.peers }
+        requires free { StartsFree self.now.peers event }
         ensures whose { IfOk result (IsWhose (S.policy strangers.now) self.now.peers event.entry) }
         ensures fault { IfErr result (IsMisdirected self.now.peers event.entry) }
-        ensures misdirected { (f : EventFault) → IsMisdirected self.now.peers event.entry f → result ≡ Err f }
+        ensures misdirected { (f : OrderFault) → IsMisdirected self.now.peers event.entry f → result ≡ Err f }
     {
         whose(&self.roster, slots, strangers, event)
     }
@@ -180,7 +181,7 @@ impl Neighbours {
         who: Option<usize>,
         event: NodeEvent<'_>,
         answer: &mut Answer,
-    ) -> Result<(), EventFault>
+    ) -> Result<(), OrderFault>
         requires whose { IsWhose (S.policy strangers.now) self.old.peers event who }
         requires none { answer.old.actions.items ≡ [] }
         ensures told { OnOk result (NodeIsTold (S.policy strangers.now) event.entry self.old.node self.old.peers

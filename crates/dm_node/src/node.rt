@@ -6,15 +6,14 @@ ghost use Rattle.dm_node.specs.NodeHeld.{AllHeldAreThere, AreKept};
 ghost use Rattle.dm_node.specs.NodeKnown.{known_of, AreKnown};
 
 use crate::known::Acquaintances;
-use crate::meeting::{tell_event, tell_message};
-use crate::moving::raise_for;
 use crate::neighbours::Neighbours;
-use crate::owners::reown;
+use crate::settling::settle;
+use crate::telling::{tell_event, tell_message};
 use crate::{Answer, NodeEvent, Strangers, Told};
 use dm_machine::{Conn, State};
 use dm_peer::Peer;
 use dm_slots::laws::what_is_there_stays;
-use dm_slots::{Acquaintance, Front, Intakes};
+use dm_slots::{Acquaintance, Front, Slots};
 use std::alloc::{AllocError, Global};
 use std::slice;
 
@@ -25,7 +24,7 @@ use std::slice;
 pub struct Node {
     pub(crate) neighbours: Neighbours,
     pub(crate) known: Acquaintances,
-    pub(crate) intakes: Intakes,
+    pub(crate) intakes: Slots,
     pub(crate) first_max: u32,
     pub(crate) most: u32,
     ghost held: { AllHeldAreThere neighbours.peers (intakes_of intakes) },
@@ -36,9 +35,8 @@ pub struct Node {
 
 impl Node {
     ghost use Rattle.std.specs.Prelude.{◌≡◌, ◌⊎◌, ℕ, true, false, All, [], Option, Some, is_some, option_map};
-    ghost use Rattle.std.specs.Prelude.{IfSome, IfNone, OnOk, OnErr};
+    ghost use Rattle.std.specs.Prelude.{IfSome, IfNone, IfOk, OnOk, OnErr, take};
     ghost use Rattle.std.specs.Option.{option_copied};
-    ghost use Rattle.dm_machine.specs.declared.connection.Conn.{Conn};
     ghost use Rattle.std.specs.Slice.Iter.{iter_rest};
     ghost use Rattle.std.specs.Iterator.Adapters.{IterYieldsInOrder};
     ghost use Rattle.dm_base.specs.Before.{lower};
@@ -47,12 +45,13 @@ impl Node {
     ghost use Rattle.dm_node.specs.Holding.{peer_at, host_at, holds_at};
     ghost use Rattle.dm_node.specs.Telling.{IsFree};
     ghost use Rattle.dm_slots.specs.Acquaintances.{known_after};
-    ghost use Rattle.dm_slots.specs.Intakes.{Intake, IsFaulty, none_there, is_there, actions_close};
+    ghost use Rattle.dm_slots.specs.Hearing.{TakesFrontAt};
+    ghost use Rattle.dm_slots.specs.Intakes.{Intake, IsFaulty, none_there, is_there};
     ghost use Rattle.dm_node.specs.NodeKnown.{acquaintance_at, MeetsAny, NodeKnownBehind, AwaitsExchangeAt};
     ghost use Rattle.dm_node.specs.NodeOrders.{node_opened, node_shut};
     ghost use Rattle.dm_node.specs.NodeSeen.{node_state_of, node_known_of};
     ghost use Rattle.dm_node.specs.NodeStates.{NodeTellsNext, NodeIsOut, NodeNextTakesMemory};
-    ghost use Rattle.dm_node.specs.NodeStates.{NodeTellsFault, TakesMemoryAt, node_fed, node_settled};
+    ghost use Rattle.dm_node.specs.NodeStates.{NodeTellsFault, TakesMemoryAt, node_fed, node_unfed};
     ghost use Rattle.dm_node.specs.Answers.{IsUntold, as_answer, turn_in};
     ghost use Rattle.dm_node.specs.declared.answer.Told.TheVariants.{Fault};
 
@@ -69,7 +68,7 @@ impl Node {
         Node {
             neighbours: Neighbours::new(alloc, node),
             known: Acquaintances::new(alloc),
-            intakes: Intakes::new(alloc),
+            intakes: Slots::new(alloc),
             first_max,
             most,
         }
@@ -156,8 +155,10 @@ impl Node {
         self.intakes.shut(conn);
     }
 
-    /// Keeps a piece that came on the connection.
-    pub(crate) fn feed(&mut self, conn: Conn, piece: &[u8]) -> Result<(), AllocError>
+    /// Keeps a piece that came on the connection, cut anyhow, to be told message by message by [`next`](Node::next).
+    /// What comes behind a fault, and on a connection that isn't there, is thrown away. Where memory is wanted the node
+    /// is as it was. Who need not keep it has [`hear`](Node::hear).
+    pub fn keep(&mut self, conn: Conn, piece: &[u8]) -> Result<(), AllocError>
         ensures fed { OnOk result (node_state_of self.new ≡ node_fed conn piece.now (node_state_of self.old)) }
         ensures unchanged { OnErr result (node_state_of self.new ≡ node_state_of self.old) }
         ensures memory { OnErr result (is_there conn.0 (node_state_of self.old).intakes ≡ true) }
@@ -167,24 +168,28 @@ impl Node {
         self.intakes.feed(conn, piece)
     }
 
-    /// What the answer closes, which nobody holds, is no more there, and what the neighbour that it is of holds takes
-    /// longer messages where that is open.
-    #[inline(always)]
-    pub(crate) fn settle(&mut self, answer: &Answer)
-        requires { (c : Conn) → actions_close answer.now.actions.items c.0 ≡ true
-            → IsFree (node_state_of self.old).peers c }
-        ensures settled { node_state_of self.new ≡ node_settled answer.now.neighbour
-            (node_state_of self.old).peers answer.now.actions.items (node_state_of self.old) }
+    /// Keeps of a piece that came on the connection what its first message wants, and answers how many octets were
+    /// taken.
+    pub(crate) fn keep_front(&mut self, conn: Conn, piece: &[u8]) -> Result<usize, AllocError>
+        ensures fed { IfOk result (λ size.
+            node_state_of self.new ≡ node_fed conn (take size piece.now) (node_state_of self.old)) }
+        ensures taken { IfOk result (TakesFrontAt ((node_state_of self.old).intakes conn.0) piece.now) }
+        ensures unchanged { OnErr result (node_state_of self.new ≡ node_state_of self.old) }
+        ensures memory { OnErr result ((i : Intake) × ((node_state_of self.old).intakes conn.0 ≡ Some i)
+            × (i.is_broken ≡ false)) }
         ensures known { node_known_of self.new ≡ node_known_of self.old }
     {
         what_is_there_stays();
-        self.intakes.leave(answer.actions.as_slice());
-        raise_for(
-            &self.neighbours,
-            &mut self.intakes,
-            answer.neighbour,
-            self.most,
-        );
+        self.intakes.feed_front(conn, piece)
+    }
+
+    /// Takes so many of the octets away again that came last on the connection. It never answers want of memory.
+    pub(crate) fn take_back(&mut self, conn: Conn, size: usize)
+        ensures back { node_state_of self.new ≡ node_unfed conn size (node_state_of self.old) }
+        ensures known { node_known_of self.new ≡ node_known_of self.old }
+    {
+        what_is_there_stays();
+        self.intakes.take_back(conn, size);
     }
 
     /// Tells the fault that stands at the front of the connection's stream, and throws away what came.
@@ -207,6 +212,7 @@ impl Node {
             (node_state_of self.new).peers (node_known_of self.old) (node_known_of self.new)) }
         ensures same { OnErr result (node_known_of self.new ≡ node_known_of self.old) }
         ensures spelled { OnOk result (All SendsSpelling answer.new.actions.items) }
+        ensures cleared { OnErr result (IsUntold answer.new) }
     {
         what_is_there_stays();
         let event = NodeEvent::Arrived(conn, &[]);
@@ -221,73 +227,20 @@ impl Node {
         ) {
             Ok(before) => {
                 self.intakes.break_off(alloc, conn);
-                reown(
+                settle(
                     &self.neighbours,
                     &mut self.intakes,
                     before,
-                    answer.neighbour,
+                    self.most,
+                    answer,
                 );
-                self.settle(answer);
                 answer.told = Told::Fault;
                 Ok(())
             }
-            Err(_) => Err(AllocError),
-        }
-    }
-
-    /// Tells what stands at the front of what came on the connection, if anything does.
-    #[inline(always)]
-    fn tell_front<S: Strangers>(
-        &mut self,
-        alloc: Global,
-        strangers: &S,
-        conn: Conn,
-        answer: &mut Answer,
-    ) -> Result<(), AllocError>
-        requires { IsUntold answer.old }
-        ensures turn { OnOk result (IfSome (turn_in conn answer.new) (λ turn. NodeTellsNext (S.policy strangers.now)
-            conn (node_state_of self.old) turn (node_state_of self.new))) }
-        ensures none { OnOk result (IfNone (turn_in conn answer.new) (
-            NodeIsOut conn (node_state_of self.old) × (node_state_of self.new ≡ node_state_of self.old))) }
-        ensures unchanged { OnErr result (node_state_of self.new ≡ node_state_of self.old) }
-        ensures memory { OnErr result (NodeNextTakesMemory (S.policy strangers.now) conn (node_state_of self.old)
-            ⊎ AwaitsExchangeAt (S.policy strangers.now) conn (node_state_of self.old)) }
-        ensures met { OnOk result (IfSome (turn_in conn answer.new) (λ turn. NodeKnownBehind conn
-            (node_state_of self.old) turn (node_state_of self.new) (node_known_of self.old)
-            (node_known_of self.new))) }
-        ensures unmet { OnOk result (IfNone (turn_in conn answer.new)
-            (node_known_of self.new ≡ node_known_of self.old)) }
-        ensures same { OnErr result (node_known_of self.new ≡ node_known_of self.old) }
-        ensures spelled { OnOk result (All SendsSpelling answer.new.actions.items) }
-    {
-        what_is_there_stays();
-        match self.intakes.front(conn) {
-            Front::Nothing => Ok(()),
-            Front::Message(message) => match tell_message(
-                alloc,
-                &mut self.neighbours,
-                &mut self.known,
-                &self.intakes,
-                strangers,
-                conn,
-                message,
-                answer,
-            ) {
-                Ok(before) => {
-                    self.intakes.skip(conn);
-                    reown(
-                        &self.neighbours,
-                        &mut self.intakes,
-                        before,
-                        answer.neighbour,
-                    );
-                    self.settle(answer);
-                    answer.told = Told::Message;
-                    Ok(())
-                }
-                Err(error) => Err(error),
-            },
-            Front::Fault => self.tell_fault(alloc, strangers, conn, answer),
+            Err(_) => {
+                answer.clear();
+                Err(AllocError)
+            }
         }
     }
 
@@ -334,13 +287,38 @@ impl Node {
         // Behind an `Err` nothing is asked for.
         ensures cleared { OnErr result (IsUntold answer.new) }
     {
+        what_is_there_stays();
         answer.clear();
-        match self.tell_front(alloc, strangers, conn, answer) {
-            Ok(()) => Ok(()),
-            Err(error) => {
-                answer.clear();
-                Err(error)
-            }
+        match self.intakes.front(conn) {
+            Front::Nothing => Ok(()),
+            Front::Message(message) => match tell_message(
+                alloc,
+                &mut self.neighbours,
+                &mut self.known,
+                &self.intakes,
+                strangers,
+                conn,
+                message,
+                answer,
+            ) {
+                Ok(before) => {
+                    self.intakes.skip(conn);
+                    settle(
+                        &self.neighbours,
+                        &mut self.intakes,
+                        before,
+                        self.most,
+                        answer,
+                    );
+                    answer.told = Told::Message;
+                    Ok(())
+                }
+                Err(error) => {
+                    answer.clear();
+                    Err(error)
+                }
+            },
+            Front::Fault => self.tell_fault(alloc, strangers, conn, answer),
         }
     }
 }

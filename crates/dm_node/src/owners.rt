@@ -14,7 +14,7 @@ use crate::looking::peer_at;
 use crate::neighbours::{Neighbours, neighbours_are_apart};
 use dm_machine::laws::each_node_has_its_form;
 use dm_peer::{Conn, Peer};
-use dm_slots::Intakes;
+use dm_slots::Slots;
 
 /// The connections that a peer holds.
 #[derive(Clone, Copy)]
@@ -71,7 +71,7 @@ pub(crate) fn holding_at(peers: &[Option<Peer>], index: usize) -> Holding
 }
 
 /// What was held before is nobody's, and what is held is of the neighbour of the number.
-fn change(slots: &mut Intakes, before: Holding, after: Holding, index: usize)
+fn change(slots: &mut Slots, before: Holding, after: Holding, index: usize)
     requires there { (c : Conn) → has after c ≡ true → is_there c.0 (intakes_of slots.old) ≡ true }
     ensures intakes { intakes_of slots.new ≡ intakes_of slots.old }
     ensures owners { (c : Conn) → owners_of slots.new c.0 ≡ owned_after (owners_of slots.old) before after index c }
@@ -84,12 +84,7 @@ fn change(slots: &mut Intakes, before: Holding, after: Holding, index: usize)
 
 /// The neighbour of the number, if one was told something, holds what it holds now, and held this before.
 #[inline(always)]
-pub(crate) fn reown(
-    neighbours: &Neighbours,
-    slots: &mut Intakes,
-    before: Holding,
-    who: Option<usize>,
-)
+pub(crate) fn reown(neighbours: &Neighbours, slots: &mut Slots, before: Holding, who: Option<usize>)
     requires there { AllHeldAreThere neighbours.now.peers (intakes_of slots.old) }
     ensures intakes { intakes_of slots.new ≡ intakes_of slots.old }
     ensures owned { (ps : List (Option Peer)) → IsReowned ps neighbours.now.peers who before

@@ -5,17 +5,17 @@ ghost use Rattle.dm_node.specs.Owning.{AreOwned};
 ghost use Rattle.dm_node.specs.Rosters.{IsRoster};
 ghost use Rattle.dm_slots.specs.Held.{owners_of};
 ghost use Rattle.dm_node.specs.Telling.{told_of, IsCallOf, IsPorter, IsFirstFor, IsAddressed};
-ghost use Rattle.dm_node.specs.Telling.{Concerns, IsAlone, IsMisdirected};
+ghost use Rattle.dm_node.specs.Telling.{Concerns, IsAlone, IsMisdirected, StartsFree};
 ghost use Rattle.dm_peer.specs.Events.{event_told};
-ghost use Rattle.dm_node.specs.declared.fault.EventFault.{EventFault};
-ghost use Rattle.dm_node.specs.declared.fault.EventFault.TheVariants.{NoNeighbour};
+ghost use Rattle.dm_node.specs.declared.fault.OrderFault.{OrderFault};
+ghost use Rattle.dm_node.specs.declared.fault.OrderFault.TheVariants.{NoNeighbour};
 
 use crate::calling::caller;
 use crate::looking::peer_at;
 use crate::roster::Roster;
-use crate::{EventFault, NodeEvent, Strangers};
+use crate::{NodeEvent, OrderFault, Strangers};
 use dm_peer::{Conn, Event, Peer};
-use dm_slots::Intakes;
+use dm_slots::Slots;
 
 /// The event as its neighbour is told it.
 pub(crate) fn told_of<'a>(event: NodeEvent<'a>) -> Event<'a>
@@ -77,7 +77,7 @@ fn first_for<S: Strangers>(roster: &Roster, strangers: &S, octets: &[u8]) -> Opt
 }
 
 /// The neighbour that holds the connection.
-fn holder(roster: &Roster, slots: &Intakes, conn: Conn) -> Option<usize>
+fn holder(roster: &Roster, slots: &Slots, conn: Conn) -> Option<usize>
     requires { AreOwned (owners_of slots.now) roster.now.peers.items }
     ensures there { IfSome result (λ i. IsSome (peer_at roster.now.peers.items i)) }
     ensures found { IfSome result (λ i. holds_at roster.now.peers.items conn i ≡ true) }
@@ -90,7 +90,7 @@ fn holder(roster: &Roster, slots: &Intakes, conn: Conn) -> Option<usize>
 /// The neighbour that octets on a connection are for.
 fn addressed<S: Strangers>(
     roster: &Roster,
-    slots: &Intakes,
+    slots: &Slots,
     strangers: &S,
     conn: Conn,
     octets: &[u8],
@@ -109,13 +109,13 @@ fn addressed<S: Strangers>(
 }
 
 /// The neighbour of the number, if there is one.
-fn numbered(peers: &[Option<Peer>], index: usize) -> Result<Option<usize>, EventFault>
+fn numbered(peers: &[Option<Peer>], index: usize) -> Result<Option<usize>, OrderFault>
     ensures found { IfOk result (λ o. (o ≡ Some index) × IsSome (peer_at peers.now index)) }
     ensures fault { IfErr result (λ f. (f ≡ NoNeighbour) × (peer_at peers.now index ≡ None)) }
 {
     match peer_at(peers, index) {
         Some(_) => Ok(Some(index)),
-        None => Err(EventFault::NoNeighbour),
+        None => Err(OrderFault::NoNeighbour),
     }
 }
 
@@ -123,12 +123,13 @@ fn numbered(peers: &[Option<Peer>], index: usize) -> Result<Option<usize>, Event
 #[inline(always)]
 pub(crate) fn whose<S: Strangers>(
     roster: &Roster,
-    slots: &Intakes,
+    slots: &Slots,
     strangers: &S,
     event: NodeEvent<'_>,
-) -> Result<Option<usize>, EventFault>
+) -> Result<Option<usize>, OrderFault>
     requires roster { IsRoster roster.now }
     requires owned { AreOwned (owners_of slots.now) roster.now.peers.items }
+    requires free { StartsFree roster.now.peers.items event }
     ensures there { IfOk result (λ o. IfSome o (λ i. IsSome (peer_at roster.now.peers.items i))) }
     ensures concerned { IfOk result (λ o.
         IfSome o (Concerns (S.policy strangers.now) roster.now.peers.items event.entry)) }
@@ -136,14 +137,11 @@ pub(crate) fn whose<S: Strangers>(
         → Concerns (S.policy strangers.now) roster.now.peers.items event.entry i → ⊥)) }
     ensures alone { IfOk result (λ o. IfSome o (IsAlone roster.now.peers.items (told_of event.entry))) }
     ensures fault { IfErr result (IsMisdirected roster.now.peers.items event.entry) }
-    ensures misdirected { (f : EventFault) → IsMisdirected roster.now.peers.items event.entry f → result ≡ Err f }
+    ensures misdirected { (f : OrderFault) → IsMisdirected roster.now.peers.items event.entry f → result ≡ Err f }
 {
     match event {
-        NodeEvent::Start(index, conn) => match holder(roster, slots, conn) {
-            Some(_) => Err(EventFault::Held),
-            None => numbered(&roster.peers, index),
-        },
-        NodeEvent::Stop(index, _)
+        NodeEvent::Start(index, _)
+        | NodeEvent::Stop(index, _)
         | NodeEvent::Timeout(index)
         | NodeEvent::Tick(index)
         | NodeEvent::Submit(index, _) => numbered(&roster.peers, index),

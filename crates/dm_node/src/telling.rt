@@ -1,99 +1,202 @@
-//! One neighbour of many is told an event.
-ghost use Rattle.std.specs.Prelude.{◌≡◌, ◌⊎◌, ℕ, true, Some, Err, IsSome, IfErr, OnOk, OnErr, All, []};
+//! The neighbours of a node are told an event.
+ghost use Rattle.std.specs.Prelude.{◌≡◌, ◌⊎◌, ℕ, true, List, [], All, Err, IfOk, IfErr, IfSome, OnOk, OnErr};
 ghost use Rattle.dm_machine.specs.declared.connection.Conn.{Conn};
-ghost use Rattle.dm_node.specs.Declining.{IsRuledOut, IsByRule};
-ghost use Rattle.dm_node.specs.Holding.{peer_at, holds_at, AreApart, AreUnlike};
-ghost use Rattle.dm_node.specs.Naming.{AreHostsNoted};
-ghost use Rattle.dm_node.specs.Policies.{Policy};
-ghost use Rattle.dm_node.specs.Rosters.{IsRoster};
-ghost use Rattle.dm_node.specs.Telling.{conn_of, told_of, Concerns, IsAlone, PeerIsTold, IsRefusedBy, IsRefusedHere};
-ghost use Rattle.dm_node.specs.Strangers.{present};
-ghost use Rattle.dm_node.specs.declared.fault.EventFault.TheVariants as faults;
-ghost use Rattle.dm_node.specs.declared.hosts.Hosts.{Hosts};
-ghost use Rattle.dm_peer.specs.Events.{event_told};
-ghost use Rattle.dm_peer.specs.Spelled.{SendsSpelling};
-ghost use Rattle.dm_peer.specs.declared.fault.PeerFault.{PeerFault};
+ghost use Rattle.dm_node.specs.Declining.{IsDeclinedHere, GoesByRule, GoesByAllRules, EventTakesMemory};
+ghost use Rattle.dm_node.specs.Holding.{peer_at};
+ghost use Rattle.dm_node.specs.NodeHeld.{AllHeldAreThere, AreKept};
+ghost use Rattle.dm_node.specs.NodeKnown.{known_of, AreKnown, MeetsAny, IsCopied};
+ghost use Rattle.dm_node.specs.NodeStates.{TakesMemoryAt};
+ghost use Rattle.dm_node.specs.Owning.{AreOwned, IsReowned};
+ghost use Rattle.dm_node.specs.Strangers.{NodeMoves, NodeIsTold};
+ghost use Rattle.dm_node.specs.Telling.{IsFree, IsStrangeCer, IsWhose, IsRefusedHere, StartsFree, told_of};
+ghost use Rattle.dm_node.specs.declared.fault.OrderFault.TheVariants as faults;
 ghost use Rattle.dm_peer.specs.declared.fault.PeerFault.TheVariants as peer_faults;
+ghost use Rattle.dm_peer.specs.Events.{Arrived};
+ghost use Rattle.dm_peer.specs.Kept.{IsKept};
+ghost use Rattle.dm_peer.specs.Spelled.{SendsSpelling};
+ghost use Rattle.dm_slots.specs.Acquaintances.{known_after, known_at};
+ghost use Rattle.dm_slots.specs.Held.{owners_of};
+ghost use Rattle.dm_slots.specs.Intakes.{Intakes as AllIntakes, actions_close};
+ghost use Rattle.dm_slots.specs.Naming.{NamesThere};
 
-use crate::roster::Roster;
-use crate::routing::told_of;
-use crate::{Answer, EventFault, NodeEvent};
+use crate::known::Acquaintances;
+use crate::meeting::{copied, held_by, meet, meet_after, state_of};
+use crate::neighbours::{Neighbours, neighbours_are_apart};
+use crate::owners::Holding;
+use crate::{Answer, NodeEvent, OrderFault, Strangers};
+use dm_machine::Conn;
 use dm_machine::laws::each_opening_has_its_message;
-use dm_peer::laws::each_event_is_one_step;
-use dm_peer::{Actions, Event, Peer, PeerFault};
-use std::alloc::Global;
+use dm_peer::laws::{
+    each_event_is_one_step, each_event_keeps_settled, each_event_names_what_it_takes,
+    every_peer_is_kept, refusals_go_by_rule,
+};
+use dm_slots::Slots;
+use std::alloc::{AllocError, Global};
 
-/// Tells the neighbour of this number the event, and puts what it does into `actions`, which are none before. No other
-/// holds the connection that it names.
-#[inline(always)]
-fn tell(
-    alloc: Global,
-    peers: &mut Vec<Option<Peer>>,
-    index: usize,
-    event: Event<'_>,
-    actions: &mut Actions,
-) -> Result<(), PeerFault>
-    requires there { IsSome (peer_at peers.old.items index) }
-    requires only { (j : ℕ) (c : Conn) → conn_of (event_told event) ≡ Some c → holds_at peers.old.items c j ≡ true
-        → j ≡ index }
-    requires none { actions.old.items ≡ [] }
-    ensures told { OnOk result (
-        PeerIsTold peers.old.items peers.new.items index (event_told event.entry) actions.new.items) }
-    ensures spelled { OnOk result (All SendsSpelling actions.new.items) }
-    ensures refused { IfErr result (IsRefusedBy peers.old.items index (event_told event.entry)) }
-    ensures ruled { IfErr result (λ f. (f ≡ peer_faults.NoMemory)
-        ⊎ IsRuledOut peers.old.items index (event_told event.entry) f) }
-    ensures refuses { (f : PeerFault) → IsRuledOut peers.old.items index (event_told event.entry) f → result ≡ Err f }
-    ensures unchanged { OnErr result (peers.new.items ≡ peers.old.items) }
-    ensures apart { AreApart peers.old.items → AreApart peers.new.items }
-    ensures unlike { AreUnlike peers.old.items → AreUnlike peers.new.items }
-    ensures named { (hosts : Hosts) → AreHostsNoted hosts peers.old.items → AreHostsNoted hosts peers.new.items }
-    ensures present { present peers.new.items ≡ present peers.old.items }
+/// What holds of the neighbour of the number, if there is one.
+pub(crate) fn look_at(neighbours: &Neighbours, index: Option<usize>)
+    ensures { IfSome index (λ i. IfSome (peer_at neighbours.now.peers i) IsKept) }
 {
-    each_event_is_one_step();
-    each_opening_has_its_message();
-    match &mut peers[index] {
-        Some(peer) => {
-            let _state = peer.state();
-            peer.on_into(alloc, event, actions)
+    if let Some(index) = index {
+        if let Some(peer) = neighbours.peer(index) {
+            every_peer_is_kept(peer);
         }
-        None => unreachable!(),
     }
 }
 
-/// Tells the neighbour of this number the event, whose connection nobody else holds, and puts what it does into
-/// `answer`, whose actions are none before.
+/// Tells the neighbours the event, which is of this one or of none, by the policy for strangers, and puts what it comes
+/// to into `answer`, whose actions are none before.
 #[inline(always)]
-pub(crate) fn tell_one_into(
+fn tell_neighbours<S: Strangers>(
     alloc: Global,
-    roster: &mut Roster,
-    index: usize,
+    neighbours: &mut Neighbours,
+    strangers: &S,
+    who: Option<usize>,
     event: NodeEvent<'_>,
     answer: &mut Answer,
-) -> Result<(), EventFault>
-    requires roster { IsRoster roster.old }
-    requires there { IsSome (peer_at roster.old.peers.items index) }
-    requires alone { IsAlone roster.old.peers.items (told_of event) index }
+) -> Result<(), OrderFault>
+    requires whose { IsWhose (S.policy strangers.now) neighbours.old.peers event who }
+    requires kept { AreKept neighbours.old.peers }
     requires none { answer.old.actions.items ≡ [] }
-    ensures neighbour { OnOk result (answer.new.neighbour ≡ Some index) }
-    ensures told { OnOk result (PeerIsTold roster.old.peers.items roster.new.peers.items index (told_of event.entry)
-        answer.new.actions.items) }
+    ensures told { OnOk result (NodeIsTold (S.policy strangers.now) event.entry neighbours.old.node
+        neighbours.old.peers answer.new.neighbour answer.new.actions.items neighbours.new.peers) }
+    ensures closed { OnOk result ((c : Conn) → actions_close answer.new.actions.items c.0 ≡ true
+        → IsFree neighbours.new.peers c) }
+    ensures held { (f : AllIntakes) → AllHeldAreThere neighbours.old.peers f → NamesThere (told_of event.entry) f
+        → AllHeldAreThere neighbours.new.peers f }
+    ensures kept { AreKept neighbours.new.peers }
+    ensures node { neighbours.new.node ≡ neighbours.old.node }
+    ensures refused { IfErr result (λ fault. (fault ≡ faults.Peer peer_faults.NoMemory)
+        ⊎ IsDeclinedHere (S.policy strangers.now) neighbours.old.peers event.entry fault) }
+    ensures memory { (c : Conn) (octets : List ℕ) → told_of event.entry ≡ Arrived c octets
+        → OnErr result (TakesMemoryAt (S.policy strangers.now) c octets neighbours.old.peers) }
+    ensures because { IfErr result (IsRefusedHere (S.policy strangers.now) neighbours.old.peers event.entry) }
+    ensures rules { GoesByRule (S.policy strangers.now) neighbours.old.peers event.entry result }
     ensures spelled { OnOk result (All SendsSpelling answer.new.actions.items) }
-    ensures refused { (policy : Policy) → Concerns policy roster.old.peers.items event.entry index
-        → IfErr result (IsRefusedHere policy roster.old.peers.items event.entry) }
-    ensures ruled { (policy : Policy) → Concerns policy roster.old.peers.items event.entry index
-        → IfErr result (IsByRule policy roster.old.peers.items event.entry) }
-    ensures refuses { (f : PeerFault) → IsRuledOut roster.old.peers.items index (told_of event.entry) f
-        → result ≡ Err (faults.Peer f) }
-    ensures unchanged { OnErr result (roster.new.peers.items ≡ roster.old.peers.items) }
-    ensures roster { IsRoster roster.new }
+    ensures unchanged { OnErr result (neighbours.new.peers ≡ neighbours.old.peers) }
 {
-    let told = told_of(event);
-    match tell(alloc, &mut roster.peers, index, told, &mut answer.actions) {
+    each_event_is_one_step();
+    each_event_keeps_settled();
+    each_event_names_what_it_takes();
+    each_opening_has_its_message();
+    refusals_go_by_rule();
+    neighbours_are_apart(neighbours);
+    match neighbours.tell_whose(alloc, strangers, who, event, answer) {
         Ok(()) => {
-            answer.neighbour = Some(index);
+            look_at(neighbours, answer.neighbour);
             Ok(())
         }
-        Err(fault) => Err(EventFault::Peer(fault)),
+        Err(fault) => Err(fault),
+    }
+}
+
+/// Tells the neighbours the message that came on the connection, by the policy for strangers, puts what it comes to
+/// into `answer`, whose actions are none before, and keeps whom it met. The CER or CEA is copied first, so
+/// that behind an `Err` all is as it was.
+pub(crate) fn tell_message<S: Strangers>(
+    alloc: Global,
+    neighbours: &mut Neighbours,
+    known: &mut Acquaintances,
+    slots: &Slots,
+    strangers: &S,
+    conn: Conn,
+    octets: &[u8],
+    answer: &mut Answer,
+) -> Result<Holding, AllocError>
+    requires kept { AreKept neighbours.old.peers }
+    requires none { answer.old.actions.items ≡ [] }
+    requires places { AreKnown neighbours.old.peers (known_of known.old) }
+    requires owned { AreOwned (owners_of slots.now) neighbours.old.peers }
+    ensures told { OnOk result (NodeMoves (S.policy strangers.now) conn octets.now neighbours.old.node
+        neighbours.old.peers answer.new.neighbour answer.new.actions.items neighbours.new.peers) }
+    ensures closed { OnOk result ((c : Conn) → actions_close answer.new.actions.items c.0 ≡ true
+        → IsFree neighbours.new.peers c) }
+    ensures held { (f : AllIntakes) → AllHeldAreThere neighbours.old.peers f → NamesThere (Arrived conn octets.now) f
+        → AllHeldAreThere neighbours.new.peers f }
+    ensures kept { AreKept neighbours.new.peers }
+    ensures node { neighbours.new.node ≡ neighbours.old.node }
+    ensures before { IfOk result (IsReowned neighbours.old.peers neighbours.new.peers answer.new.neighbour) }
+    ensures places { AreKnown neighbours.new.peers (known_of known.new) }
+    ensures met { OnOk result (MeetsAny (λ state q a. known_at conn state q octets.now a) answer.new.neighbour
+        neighbours.old.peers neighbours.new.peers (known_of known.old) (known_of known.new)) }
+    ensures memory { OnErr result (TakesMemoryAt (S.policy strangers.now) conn octets.now neighbours.old.peers
+        ⊎ IsCopied (S.policy strangers.now) conn octets.now neighbours.old.peers) }
+    ensures spelled { OnOk result (All SendsSpelling answer.new.actions.items) }
+    ensures unchanged { OnErr result (neighbours.new.peers ≡ neighbours.old.peers) }
+    ensures same { OnErr result (known_of known.new ≡ known_of known.old) }
+{
+    let event = NodeEvent::Arrived(conn, octets);
+    let who = match neighbours.whose(slots, strangers, event) {
+        Ok(who) => who,
+        Err(_) => unreachable!(),
+    };
+    let before = state_of(neighbours, who);
+    let held = held_by(neighbours, who);
+    let exchange = match copied(alloc, known, before, octets) {
+        Ok(exchange) => exchange,
+        Err(error) => return Err(error),
+    };
+    match tell_neighbours(alloc, neighbours, strangers, who, event, answer) {
+        Ok(()) => {
+            meet(neighbours, known, answer.neighbour, exchange, conn, before);
+            Ok(held)
+        }
+        Err(_) => Err(AllocError),
+    }
+}
+
+/// Tells the neighbours an event that is no stranger's CER, as `tell_neighbours` does, and keeps whom the end of an
+/// election met by it.
+pub(crate) fn tell_event<S: Strangers>(
+    alloc: Global,
+    neighbours: &mut Neighbours,
+    known: &mut Acquaintances,
+    slots: &Slots,
+    strangers: &S,
+    event: NodeEvent<'_>,
+    answer: &mut Answer,
+) -> Result<Holding, OrderFault>
+    requires kept { AreKept neighbours.old.peers }
+    requires none { answer.old.actions.items ≡ [] }
+    requires places { AreKnown neighbours.old.peers (known_of known.old) }
+    requires owned { AreOwned (owners_of slots.now) neighbours.old.peers }
+    requires calm { IsStrangeCer event → ⊥ }
+    requires free { StartsFree neighbours.old.peers event }
+    ensures told { OnOk result (NodeIsTold (S.policy strangers.now) event.entry neighbours.old.node
+        neighbours.old.peers answer.new.neighbour answer.new.actions.items neighbours.new.peers) }
+    ensures closed { OnOk result ((c : Conn) → actions_close answer.new.actions.items c.0 ≡ true
+        → IsFree neighbours.new.peers c) }
+    ensures held { (f : AllIntakes) → AllHeldAreThere neighbours.old.peers f → NamesThere (told_of event.entry) f
+        → AllHeldAreThere neighbours.new.peers f }
+    ensures kept { AreKept neighbours.new.peers }
+    ensures node { neighbours.new.node ≡ neighbours.old.node }
+    ensures before { IfOk result (IsReowned neighbours.old.peers neighbours.new.peers answer.new.neighbour) }
+    ensures places { AreKnown neighbours.new.peers (known_of known.new) }
+    ensures met { OnOk result (MeetsAny known_after answer.new.neighbour neighbours.old.peers neighbours.new.peers
+        (known_of known.old) (known_of known.new)) }
+    ensures refused { IfErr result (λ fault. (fault ≡ faults.Peer peer_faults.NoMemory)
+        ⊎ IsDeclinedHere (S.policy strangers.now) neighbours.old.peers event.entry fault) }
+    ensures memory { (c : Conn) (octets : List ℕ) → told_of event.entry ≡ Arrived c octets
+        → OnErr result (TakesMemoryAt (S.policy strangers.now) c octets neighbours.old.peers) }
+    ensures rules { GoesByAllRules (S.policy strangers.now) neighbours.old.peers event.entry result }
+    ensures wants { result ≡ Err (faults.Peer peer_faults.NoMemory)
+        → EventTakesMemory (S.policy strangers.now) neighbours.old.peers event.entry }
+    ensures spelled { OnOk result (All SendsSpelling answer.new.actions.items) }
+    ensures unchanged { OnErr result (neighbours.new.peers ≡ neighbours.old.peers) }
+    ensures same { OnErr result (known_of known.new ≡ known_of known.old) }
+{
+    refusals_go_by_rule();
+    let who = match neighbours.whose(slots, strangers, event) {
+        Ok(who) => who,
+        Err(fault) => return Err(fault),
+    };
+    let before = state_of(neighbours, who);
+    let held = held_by(neighbours, who);
+    match tell_neighbours(alloc, neighbours, strangers, who, event, answer) {
+        Ok(()) => {
+            meet_after(neighbours, known, answer.neighbour, before);
+            Ok(held)
+        }
+        Err(fault) => Err(fault),
     }
 }

@@ -4,7 +4,7 @@ ghost use Rattle.dm_node.specs.Calling.{caller_of, answer_to};
 ghost use Rattle.dm_node.specs.Rosters.{IsRoster};
 ghost use Rattle.dm_node.specs.Strangers.{NodeMoves, NodeIsTold};
 ghost use Rattle.dm_node.specs.Telling.{Concerns, IsAddressed, IsStrangeCer};
-ghost use Rattle.dm_node.specs.declared.fault.EventFault.TheVariants as faults;
+ghost use Rattle.dm_node.specs.declared.fault.OrderFault.TheVariants as faults;
 ghost use Rattle.dm_peer.specs.Spelled.{SendsSpelling};
 ghost use Rattle.dm_peer.specs.declared.fault.PeerFault.TheVariants as peer_faults;
 
@@ -13,7 +13,7 @@ use crate::events::NodeActions;
 use crate::offering::offered;
 use crate::roster::Roster;
 use crate::welcoming::welcome;
-use crate::{Answer, EventFault, NodeEvent, Strangers};
+use crate::{Answer, NodeEvent, OrderFault, Strangers};
 use arrayvec::ArrayVec;
 use dm_base::Node;
 use dm_peer::{Conn, PeerFault};
@@ -25,7 +25,7 @@ fn turn_off(
     node: &Node,
     conn: Conn,
     octets: &[u8],
-) -> Result<NodeActions, EventFault>
+) -> Result<NodeActions, OrderFault>
     ensures nobody { IfOk result (λ r. r.neighbour ≡ None) }
     ensures answer { IfOk result (λ r. r.actions.items ≡ answer_to node.now conn (caller_of octets.now)) }
     ensures spelled { IfOk result (λ r. All SendsSpelling r.actions.items) }
@@ -36,7 +36,7 @@ fn turn_off(
             neighbour: None,
             actions,
         }),
-        Err(_) => Err(EventFault::Peer(PeerFault::NoMemory)),
+        Err(_) => Err(OrderFault::Peer(PeerFault::NoMemory)),
     }
 }
 
@@ -48,7 +48,7 @@ fn meet_stranger<S: Strangers>(
     strangers: &S,
     conn: Conn,
     octets: &[u8],
-) -> Result<NodeActions, EventFault>
+) -> Result<NodeActions, OrderFault>
     requires roster { IsRoster roster.old }
     requires nobody { (i : ℕ) → IsAddressed (S.policy strangers.now) roster.old.peers.items conn octets.now i → ⊥ }
     ensures moved { IfOk result (λ r. NodeMoves (S.policy strangers.now) conn octets.now node.now
@@ -61,7 +61,7 @@ fn meet_stranger<S: Strangers>(
     match offered(alloc, roster, strangers, octets) {
         Ok(Some(config)) => welcome(alloc, roster, config, conn, octets),
         Ok(None) => turn_off(alloc, node, conn, octets),
-        Err(_) => Err(EventFault::Peer(PeerFault::NoMemory)),
+        Err(_) => Err(OrderFault::Peer(PeerFault::NoMemory)),
     }
 }
 
@@ -72,7 +72,7 @@ fn at_stranger<S: Strangers>(
     roster: &mut Roster,
     strangers: &S,
     event: NodeEvent<'_>,
-) -> Result<NodeActions, EventFault>
+) -> Result<NodeActions, OrderFault>
     requires roster { IsRoster roster.old }
     requires nobody { (i : ℕ) → Concerns (S.policy strangers.now) roster.old.peers.items event i → ⊥ }
     ensures told { IfOk result (λ r. NodeIsTold (S.policy strangers.now) event.entry node.now
@@ -102,7 +102,7 @@ pub(crate) fn tell_unknown<S: Strangers>(
     strangers: &S,
     event: NodeEvent<'_>,
     answer: &mut Answer,
-) -> Result<(), EventFault>
+) -> Result<(), OrderFault>
     requires roster { IsRoster roster.old }
     requires nobody { (i : ℕ) → Concerns (S.policy strangers.now) roster.old.peers.items event i → ⊥ }
     ensures told { OnOk result (NodeIsTold (S.policy strangers.now) event.entry node.now roster.old.peers.items

@@ -7,14 +7,14 @@ ghost use Rattle.dm_node.specs.Holding.{holds, holds_at, host_at};
 ghost use Rattle.dm_node.specs.Rosters.{IsRoster};
 ghost use Rattle.dm_node.specs.Strangers.{Joins, StaysOut};
 ghost use Rattle.dm_node.specs.Telling.{IsFree};
-ghost use Rattle.dm_node.specs.declared.fault.EventFault.TheVariants as faults;
+ghost use Rattle.dm_node.specs.declared.fault.OrderFault.TheVariants as faults;
 ghost use Rattle.dm_peer.specs.Acts.{Moved, acts};
 ghost use Rattle.dm_peer.specs.Events.{Arrived};
 ghost use Rattle.dm_peer.specs.Spelled.{SendsSpelling};
 ghost use Rattle.dm_peer.specs.declared.config.Config.{Config};
 ghost use Rattle.dm_peer.specs.declared.fault.PeerFault.TheVariants as peer_faults;
 
-use crate::EventFault;
+use crate::OrderFault;
 use crate::events::NodeActions;
 use crate::roster::Roster;
 use dm_machine::laws::each_opening_has_its_message;
@@ -49,7 +49,7 @@ fn meet(alloc: Global, config: Config, conn: Conn, octets: &[u8]) -> Result<Met,
 }
 
 /// The peer becomes a neighbour, unless it is Closed.
-fn keep(roster: &mut Roster, met: Met) -> Result<NodeActions, EventFault>
+fn keep(roster: &mut Roster, met: Met) -> Result<NodeActions, OrderFault>
     requires roster { IsRoster roster.old }
     requires unknown { (j : ℕ) → host_at roster.old.peers.items j ≡ Some (lower met.peer.config.peer) → ⊥ }
     requires free { (c : Conn) (j : ℕ) → holds c met.peer ≡ true → holds_at roster.old.peers.items c j ≡ false }
@@ -75,7 +75,7 @@ fn keep(roster: &mut Roster, met: Met) -> Result<NodeActions, EventFault>
                 neighbour: Some(index),
                 actions,
             }),
-            Err(_) => Err(EventFault::Peer(PeerFault::NoMemory)),
+            Err(_) => Err(OrderFault::Peer(PeerFault::NoMemory)),
         },
     }
 }
@@ -88,7 +88,7 @@ pub(crate) fn welcome(
     config: Config,
     conn: Conn,
     octets: &[u8],
-) -> Result<NodeActions, EventFault>
+) -> Result<NodeActions, OrderFault>
     requires roster { IsRoster roster.old }
     requires unknown { (j : ℕ) → host_at roster.old.peers.items j ≡ Some (lower config.peer) → ⊥ }
     requires free { IsFree roster.old.peers.items conn }
@@ -103,6 +103,6 @@ pub(crate) fn welcome(
 {
     match meet(alloc, config, conn, octets) {
         Ok(met) => keep(roster, met),
-        Err(fault) => Err(EventFault::Peer(fault)),
+        Err(fault) => Err(OrderFault::Peer(fault)),
     }
 }

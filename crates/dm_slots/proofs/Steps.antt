@@ -7,7 +7,7 @@ use Rattle.dm_machine.specs.declared.connection.Conn.{Conn}
 use Rattle.dm_peer.specs.declared.actions.Action.{Action}
 use Rattle.dm_peer.specs.declared.actions.Action.TheVariants as action
 use Rattle.dm_slots.specs.declared.intake.Front.{Front}
-use Rattle.dm_slots.specs.declared.intakes.Slot.{Slot}
+use Rattle.dm_slots.specs.declared.slots.Slot.{Slot}
 use Rattle.dm_slots.specs.declared.intake.Front.TheVariants.{Nothing, Message, Fault}
 use Rattle.dm_slots.specs.Fronts.{IsFront, IsFrontAt}
 use Rattle.dm_slots.specs.Intakes.{Intake, Intakes, IsToldOut, actions_close, is_close_of, left_by, taken_down, raised_at, with_max}

@@ -1,6 +1,6 @@
--- A whole message that is told where it lies, in the piece that brought it.
-use Rattle.std.specs.Prelude.{◌≡◌, ◌≤◌, ℕ, false, Option, Some, List, [], ◌++◌, length, take, drop}
-use Rattle.dm_framer.specs.Frames.{IsFrame, BeginsWithNoFrame}
+-- What is taken of a piece that came: a whole message that is told where it lies, or what the first message wants.
+use Rattle.std.specs.Prelude.{◌≡◌, ◌≤◌, ◌<◌, ℕ, true, false, Option, None, Some, List, [], ◌++◌, length, take, drop}
+use Rattle.dm_framer.specs.Frames.{IsFrame, BeginsWithFrame, BeginsWithNoFrame}
 use Rattle.dm_slots.specs.Intakes.{Intake}
 
 -- nothing is kept of what came, nor thrown away, and the piece begins with this whole message
@@ -20,3 +20,20 @@ pub record IsWholeAt (o : Option Intake) (piece : List ℕ) (size : ℕ) : Type 
   pub there : o ≡ Some intake
   pub within : size ≤ length piece
   pub front : IsWholeIn intake piece (take size piece) (drop size piece)
+
+-- Of a piece just as many octets are taken as complete the first message behind what is kept: all where it isn't whole
+-- with fewer, and where what comes is thrown away.
+pub record TakesFront (i : Intake) (piece : List ℕ) (size : ℕ) : Type 0 where
+  pub within : size ≤ length piece
+  pub front : size < length piece → BeginsWithFrame i.max (i.octets ++ take size piece)
+  pub least : i.is_broken ≡ false → (k : ℕ) → k < size → BeginsWithNoFrame i.max (i.octets ++ take k piece)
+  pub thrown : i.is_broken ≡ true → size ≡ length piece
+
+-- all where the connection isn't there
+abbrev pub TakesFrontAt : Option Intake → List ℕ → ℕ → Type 0
+TakesFrontAt None piece size = size ≡ length piece
+TakesFrontAt (Some i) piece size = TakesFront i piece size
+
+-- a whole message that is told where it lies is what is taken of its piece
+abbrev pub WholeIsTaken : Type 0
+WholeIsTaken = (o : Option Intake) (piece : List ℕ) (size : ℕ) → IsWholeAt o piece size → TakesFrontAt o piece size

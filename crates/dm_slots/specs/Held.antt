@@ -4,12 +4,12 @@ use Rattle.std.specs.Option.{option_map}
 use Rattle.indexmap.specs.IndexMap.{get}
 use Rattle.dm_machine.specs.declared.connection.Conn.{Conn}
 use Rattle.dm_peer.specs.declared.actions.Action.{Action}
-use Rattle.dm_slots.specs.declared.intakes.Intakes as declared
-use Rattle.dm_slots.specs.declared.intakes.Slot.{Slot}
+use Rattle.dm_slots.specs.declared.slots.Slots as declared
+use Rattle.dm_slots.specs.declared.slots.Slot.{Slot}
 use Rattle.dm_slots.specs.Intakes.{Intakes, is_conn_number, actions_close}
 
 -- by a connection's number what came on it
-abbrev pub intakes_of : declared.Intakes → Intakes
+abbrev pub intakes_of : declared.Slots → Intakes
 intakes_of i c = option_map (λ s. s.intake) (get nat_eq i.map c)
 
 -- by a connection's number whose it is
@@ -20,7 +20,7 @@ abbrev pub owner_in : Option Slot → Option ℕ
 owner_in None = None
 owner_in (Some s) = s.owner
 
-abbrev pub owners_of : declared.Intakes → Owners
+abbrev pub owners_of : declared.Slots → Owners
 owners_of i c = owner_in (get nat_eq i.map c)
 
 -- each connection is nobody's

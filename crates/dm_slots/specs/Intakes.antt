@@ -1,5 +1,6 @@
 -- What came on the connections that are there and wasn't told yet.
 use Rattle.std.specs.Prelude.{◌≡◌, ℕ, Bool, true, false, cond, nat_eq, is_some, Option, None, Some, List, [], ◌++◌}
+use Rattle.std.specs.Prelude.{length, take, ◌-◌}
 use Rattle.std.specs.Option.{option_map}
 use Rattle.std.specs.List.{list_any}
 use Rattle.dm_machine.specs.declared.connection.Conn.{Conn}
@@ -67,6 +68,10 @@ left_by actions f c = cond (actions_close actions c) None (f c)
 -- a piece came
 abbrev pub fed_intake : List ℕ → Intake → Intake
 fed_intake piece i = cond i.is_broken i (record i { octets = i.octets ++ piece })
+
+-- so many of the octets that came last are taken away again
+abbrev pub unfed_intake : ℕ → Intake → Intake
+unfed_intake n i = cond i.is_broken i (record i { octets = take (length i.octets - n) i.octets })
 
 -- a fault was told
 abbrev pub broken_intake : Intake → Intake

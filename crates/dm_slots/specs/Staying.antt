@@ -1,9 +1,9 @@
 -- What stays there, whatever is done with what came: all but what is closed or shut.
-use Rattle.std.specs.Prelude.{◌≡◌, ℕ, true, false, Some, List}
+use Rattle.std.specs.Prelude.{◌≡◌, ℕ, true, false, Some, List, length}
 use Rattle.dm_peer.specs.declared.actions.Action.{Action}
 use Rattle.dm_peer.specs.declared.peer.Peer.{Peer}
 use Rattle.dm_slots.specs.Intakes.{Intake, Intakes, is_there, opened, taken_down}
-use Rattle.dm_slots.specs.Intakes.{changed, with_intake, actions_close, left_by}
+use Rattle.dm_slots.specs.Intakes.{changed, with_intake, fed_intake, unfed_intake, actions_close, left_by}
 use Rattle.dm_slots.specs.Raised.{raised}
 
 -- each connection that is there before is there afterwards
@@ -23,6 +23,12 @@ TellingKeeps = (c : ℕ) (i : Intake) (f : Intakes) → KeepsThere f (with_intak
 
 abbrev pub RaisingKeeps : Type 0
 RaisingKeeps = (most : ℕ) (p : Peer) (f : Intakes) → KeepsThere f (raised most p f)
+
+-- what was kept of a piece, and taken away again, leaves nothing
+abbrev pub TakingBackUndoes : Type 0
+TakingBackUndoes =
+    (c : ℕ) (piece : List ℕ) (f : Intakes)
+    → changed c (unfed_intake (length piece)) (changed c (fed_intake piece) f) ≡ f
 
 -- what isn't closed stays, and what isn't shut
 abbrev pub ClosingKeeps : Type 0

@@ -1,8 +1,8 @@
 //! What came on a connection and wasn't told yet.
-ghost use Rattle.std.specs.Prelude.{◌≡◌, ◌≤◌, ℕ, List, length, take, drop, IfSome, IfNone, OnOk, OnErr};
-ghost use Rattle.dm_slots.specs.Intakes.{new_intake, fed_intake, broken_intake, with_max, IsFirst};
+ghost use Rattle.std.specs.Prelude.{◌≡◌, ◌≤◌, ℕ, false, List, length, take, drop, IfSome, IfNone, IfOk, OnOk, OnErr};
+ghost use Rattle.dm_slots.specs.Intakes.{new_intake, fed_intake, unfed_intake, broken_intake, with_max, IsFirst};
 ghost use Rattle.dm_slots.specs.Fronts.{IsFront};
-ghost use Rattle.dm_slots.specs.Hearing.{IsWholeIn, IsNotWhole};
+ghost use Rattle.dm_slots.specs.Hearing.{IsWholeIn, IsNotWhole, TakesFront};
 
 use dm_framer::{Framer, front_len};
 use std::alloc::{AllocError, Global};
@@ -59,6 +59,32 @@ impl Intake {
         match self.framer.feed(piece) {
             Ok(()) => Ok(()),
             Err(_) => Err(AllocError),
+        }
+    }
+
+    /// Keeps of a piece what the first message wants, and answers how many octets these are. Behind a fault all is
+    /// thrown away.
+    pub(crate) fn feed_front(&mut self, piece: &[u8]) -> Result<usize, AllocError>
+        ensures fed { IfOk result (λ size. self.new ≡ fed_intake (take size piece.now) self.old) }
+        ensures taken { IfOk result (TakesFront self.old piece.now) }
+        ensures unchanged { OnErr result (self.new ≡ self.old) }
+        ensures memory { OnErr result (self.old.is_broken ≡ false) }
+    {
+        if self.is_broken {
+            return Ok(piece.len());
+        }
+        match self.framer.feed_front(piece) {
+            Ok(size) => Ok(size),
+            Err(_) => Err(AllocError),
+        }
+    }
+
+    /// Takes so many of the octets away again that came last. It never answers want of memory.
+    pub(crate) fn take_back(&mut self, size: usize)
+        ensures { self.new ≡ unfed_intake size self.old }
+    {
+        if !self.is_broken {
+            self.framer.take_back(size);
         }
     }
 

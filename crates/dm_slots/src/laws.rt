@@ -1,9 +1,12 @@
-//! A law of connections: it does nothing, and its contract is the law.
+//! Laws of connections: each does nothing, and its contract is the law.
 ghost use Rattle.dm_slots.specs.Staying.{OpeningKeeps, ChangingKeeps, TellingKeeps, RaisingKeeps};
-ghost use Rattle.dm_slots.specs.Staying.{ClosingKeeps, ShuttingKeeps};
+ghost use Rattle.dm_slots.specs.Staying.{ClosingKeeps, ShuttingKeeps, TakingBackUndoes};
+ghost use Rattle.dm_slots.specs.Hearing.{WholeIsTaken};
+
+use dm_framer::laws::one_front;
 
 /// A connection that is there stays there, whatever is done with what came, but where it is closed or shut. The law
-/// stands for users: who keeps [`Intakes`](crate::Intakes) beside peers of his own knows by it that what these hold is
+/// stands for users: who keeps [`Slots`](crate::Slots) beside peers of his own knows by it that what these hold is
 /// there.
 pub fn what_is_there_stays()
     ensures opened { OpeningKeeps }
@@ -13,3 +16,15 @@ pub fn what_is_there_stays()
     ensures closed { ClosingKeeps }
     ensures shut { ShuttingKeeps }
 {}
+
+/// What was kept of a piece and is taken away again leaves nothing: the connections are as they were.
+pub fn taking_back_undoes()
+    ensures { TakingBackUndoes }
+{}
+
+/// Where nothing is kept, what is taken of a piece that begins with a whole message is that message.
+pub fn whole_is_taken()
+    ensures { WholeIsTaken }
+{
+    one_front();
+}

@@ -3,10 +3,10 @@
 
 mod acquaintance;
 mod intake;
-mod intakes;
 pub mod laws;
+mod slots;
 
 pub use acquaintance::{Acquaintance, is_exchange};
 pub use dm_peer::{Action, Conn};
 pub use intake::Front;
-pub use intakes::Intakes;
+pub use slots::Slots;

@@ -1,7 +1,7 @@
 //! What a node knows of a neighbour, which comes again.
 
 use crate::single::{DWR_OF_B, R, alone, asked};
-use dm_node::{Acquaintance, Alone, Answer, Node, NodeOrder, Told};
+use dm_node::{Acquaintance, Alone, Answer, Node, Order, Told};
 use dm_peer::Conn;
 use std::process::Abort;
 
@@ -22,7 +22,7 @@ fn turns(answer: &Answer) -> usize {
 
 /// How many turns are told of the piece that comes on the connection, one at most.
 fn told(rt: &(impl Abort + AllocGlobal), node: &mut Node, conn: Conn, piece: &[u8]) -> usize {
-    let _kept = asked(rt, node, NodeOrder::Octets(conn, piece));
+    let _kept = node.keep(conn, piece);
     let mut answer = Answer::new();
     let told = match node.next(rt.alloc(), &Alone, conn, &mut answer) {
         Ok(()) => turns(&answer),
@@ -88,7 +88,7 @@ fn met_once(
     Option<(Option<u32>, Option<u32>, bool)>,
 ) {
     let mut node = alone(rt);
-    let _none = asked(rt, &mut node, NodeOrder::Accept(R));
+    let _none = asked(rt, &mut node, Order::Accept(R));
     let opened = told_in_halves(rt, &mut node, R, CER_OF_7);
     let watched = told_in_halves(rt, &mut node, R, DWR_OF_B);
     let found = said(rt, &node);
@@ -103,10 +103,10 @@ fn met_again(
     digits: &str,
 ) -> Option<(Option<u32>, Option<u32>, bool)> {
     let mut node = alone(rt);
-    let _none = asked(rt, &mut node, NodeOrder::Accept(R));
+    let _none = asked(rt, &mut node, Order::Accept(R));
     let _opened = told_in_halves(rt, &mut node, R, CER_OF_7);
-    let _gone = asked(rt, &mut node, NodeOrder::Gone(R));
-    let _again = asked(rt, &mut node, NodeOrder::Accept(Conn(10)));
+    let _gone = asked(rt, &mut node, Order::Gone(R));
+    let _again = asked(rt, &mut node, Order::Accept(Conn(10)));
     let _opened_again = told_in_halves(rt, &mut node, Conn(10), digits);
     let states = states(&node);
     drop(node);
@@ -120,13 +120,13 @@ fn met_at_nack(
 ) -> ((usize, usize), Option<u32>, Option<u32>, Option<u32>) {
     let mut node = alone(rt);
     let own = Conn(0);
-    let _asked = asked(rt, &mut node, NodeOrder::Start(0, own));
-    let _none = asked(rt, &mut node, NodeOrder::Accept(R));
+    let _asked = asked(rt, &mut node, Order::Start(0, own));
+    let _none = asked(rt, &mut node, Order::Accept(R));
     let crossed = told_in_halves(rt, &mut node, R, CER_OF_7);
     let waiting = state(&node);
-    let _actions = asked(rt, &mut node, NodeOrder::Nack(own));
+    let _actions = asked(rt, &mut node, Order::Nack(own));
     let met = state(&node);
-    let _refused = asked(rt, &mut node, NodeOrder::Start(0, Conn(1)));
+    let _refused = asked(rt, &mut node, Order::Start(0, Conn(1)));
     let later = state(&node);
     drop(node);
     (crossed, waiting, met, later)
@@ -135,12 +135,12 @@ fn met_at_nack(
 /// How many octets of a CER are told where it lies, and the Origin-State-Id that is known then.
 fn met_in_place(rt: &(impl Abort + AllocGlobal)) -> (Option<usize>, Option<u32>) {
     let mut node = alone(rt);
-    let _none = asked(rt, &mut node, NodeOrder::Accept(R));
+    let _none = asked(rt, &mut node, Order::Accept(R));
     let octets = hex::decode(rt.alloc(), CER_OF_8.as_bytes()).expect(rt, "digits");
     let mut answer = Answer::new();
     let told = match node.hear(rt.alloc(), &Alone, R, octets.as_slice(), &mut answer) {
-        Ok(length) => length,
-        Err(_) => None,
+        Ok(length) if answer.told == Told::Message => Some(length),
+        _ => None,
     };
     drop(answer);
     drop(octets);

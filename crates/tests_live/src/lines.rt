@@ -21,7 +21,7 @@ fn answer(rt: &(impl Abort + AllocGlobal), node: &mut Node, line: &str, text: &m
             rt.alloc(),
             Form::Alone,
             node,
-            order.order(),
+            order.asked(),
             &mut lent,
             text,
         );

@@ -24,7 +24,7 @@ fn answer(rt: &(impl Abort + AllocGlobal), node: &mut Node, line: &str, text: &m
             rt.alloc(),
             Form::Several,
             node,
-            order.order(),
+            order.asked(),
             &mut lent,
             text,
         );

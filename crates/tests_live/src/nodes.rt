@@ -1,7 +1,7 @@
 //! A node of three neighbours with its connections.
 
 use crate::single::{CER_OF_B, DWR_OF_B, config, node};
-use dm_node::{Answer, Conn, EventFault, Node, NodeOrder, Open, Strangers, Told};
+use dm_node::{Answer, Conn, Node, Open, Order, OrderFault, Strangers, Told};
 use dm_peer::State;
 use std::process::Abort;
 
@@ -32,12 +32,12 @@ fn done(answer: &Answer) -> Option<(Option<usize>, usize)> {
 fn asked(
     rt: &(impl Abort + AllocGlobal),
     node: &mut Node,
-    order: NodeOrder<'_>,
+    order: Order<'_>,
 ) -> Option<(Option<usize>, usize)> {
     let mut answer = Answer::new();
     let asked = match node.order(rt.alloc(), order, &mut answer) {
         Ok(()) => done(&answer),
-        Err(EventFault::NoNeighbour) => Some((None, 50)),
+        Err(OrderFault::NoNeighbour) => Some((None, 50)),
         Err(_) => Some((None, 100)),
     };
     drop(answer);
@@ -71,8 +71,10 @@ fn told_in_place(
 ) -> Option<(usize, Option<usize>, usize)> {
     let mut answer = Answer::new();
     let told = match node.hear(rt.alloc(), strangers, conn, octets, &mut answer) {
-        Ok(Some(length)) => Some((length, answer.neighbour, answer.actions.len())),
-        Ok(None) => None,
+        Ok(length) if answer.told == Told::Message => {
+            Some((length, answer.neighbour, answer.actions.len()))
+        }
+        Ok(_) => None,
         Err(_) => Some((0, None, 100)),
     };
     drop(answer);
@@ -85,7 +87,7 @@ fn came(rt: &(impl Abort + AllocGlobal), node: &mut Node, conn: Conn, digits: &s
     if let Some(octet) = octets.get_mut(28) {
         *octet = letter;
     }
-    let _kept = asked(rt, node, NodeOrder::Octets(conn, octets.as_slice()));
+    let _kept = node.keep(conn, octets.as_slice());
     drop(octets);
 }
 
@@ -108,7 +110,7 @@ fn called(
     conn: Conn,
     letter: u8,
 ) -> Option<(Option<usize>, usize)> {
-    let _none = asked(rt, node, NodeOrder::Accept(conn));
+    let _none = asked(rt, node, Order::Accept(conn));
     told(rt, node, conn, CER_OF_B, letter)
 }
 
@@ -128,8 +130,8 @@ fn apart(
     let mut node = three(rt);
     let _first = called(rt, &mut node, Conn(1), b'b');
     let _second = called(rt, &mut node, Conn(2), b'c');
-    let _third = asked(rt, &mut node, NodeOrder::Start(2, Conn(3)));
-    let lost = asked(rt, &mut node, NodeOrder::Gone(Conn(1)));
+    let _third = asked(rt, &mut node, Order::Start(2, Conn(3)));
+    let lost = asked(rt, &mut node, Order::Gone(Conn(1)));
     let states = states(&node);
     let watched = told(rt, &mut node, Conn(2), DWR_OF_B, b'c');
     drop(node);
@@ -145,8 +147,8 @@ fn crossed(
     (Option<State>, Option<State>, Option<State>),
 ) {
     let mut node = three(rt);
-    let _asked = asked(rt, &mut node, NodeOrder::Start(0, Conn(1)));
-    let made = asked(rt, &mut node, NodeOrder::Ack(Conn(1)));
+    let _asked = asked(rt, &mut node, Order::Start(0, Conn(1)));
+    let made = asked(rt, &mut node, Order::Ack(Conn(1)));
     let came = called(rt, &mut node, Conn(2), b'b');
     let states = states(&node);
     drop(node);
@@ -157,7 +159,7 @@ fn crossed(
 /// many actions it asks for.
 fn heard(rt: &(impl Abort + AllocGlobal), letter: u8) -> Option<(usize, Option<usize>, usize)> {
     let mut node = three(rt);
-    let _none = asked(rt, &mut node, NodeOrder::Accept(Conn(1)));
+    let _none = asked(rt, &mut node, Order::Accept(Conn(1)));
     let mut octets = hex::decode(rt.alloc(), CER_OF_B.as_bytes()).expect(rt, "digits");
     if let Some(octet) = octets.get_mut(28) {
         *octet = letter;
@@ -191,11 +193,11 @@ fn cut(rt: &(impl Abort + AllocGlobal), at: usize) -> [Option<(Option<usize>, us
         .as_slice()
         .split_at_checked(at)
         .expect(rt, "two pieces");
-    let _none = asked(rt, &mut node, NodeOrder::Accept(Conn(1)));
-    let _kept = asked(rt, &mut node, NodeOrder::Octets(Conn(1), piece));
+    let _none = asked(rt, &mut node, Order::Accept(Conn(1)));
+    let _kept = node.keep(Conn(1), piece);
     let first = turn(rt, &mut node, &(), Conn(1));
     let second = turn(rt, &mut node, &(), Conn(1));
-    let _kept = asked(rt, &mut node, NodeOrder::Octets(Conn(1), more));
+    let _kept = node.keep(Conn(1), more);
     let third = turn(rt, &mut node, &(), Conn(1));
     let fourth = turn(rt, &mut node, &(), Conn(1));
     drop(octets);
@@ -229,7 +231,7 @@ fn permitted(
 ) -> (Option<(Option<usize>, usize)>, Option<State>, bool) {
     let mut node = three(rt);
     let policy = Open::new(config(rt, b"b.example"), most);
-    let _none = asked(rt, &mut node, NodeOrder::Accept(Conn(1)));
+    let _none = asked(rt, &mut node, Order::Accept(Conn(1)));
     came(rt, &mut node, Conn(1), CER_OF_B, letter);
     let turn = turn(rt, &mut node, &policy, Conn(1));
     let state = node.state_of(3);
@@ -247,7 +249,7 @@ fn permitted_in_place(
 ) -> (Option<(usize, Option<usize>, usize)>, Option<State>) {
     let mut node = three(rt);
     let policy = Open::new(config(rt, b"b.example"), most);
-    let _none = asked(rt, &mut node, NodeOrder::Accept(Conn(1)));
+    let _none = asked(rt, &mut node, Order::Accept(Conn(1)));
     let mut octets = hex::decode(rt.alloc(), CER_OF_B.as_bytes()).expect(rt, "digits");
     if let Some(octet) = octets.get_mut(28) {
         *octet = letter;
@@ -270,7 +272,7 @@ fn broken(
 ) {
     let mut node = three(rt);
     let policy = Open::new(config(rt, b"b.example"), 4);
-    let _none = asked(rt, &mut node, NodeOrder::Accept(Conn(1)));
+    let _none = asked(rt, &mut node, Order::Accept(Conn(1)));
     came(rt, &mut node, Conn(1), CER_OF_B, b'z');
     let _taken = turn(rt, &mut node, &policy, Conn(1));
     came(rt, &mut node, Conn(1), "02000014", 0);
@@ -293,16 +295,28 @@ pub(crate) fn host_met(node: &Node, index: usize) -> Option<usize> {
     }
 }
 
+/// How much is closed where the first neighbour goes; None where there is none.
+fn closed(node: &mut Node) -> Option<usize> {
+    let mut answer = Answer::new();
+    let closed = if node.remove(0, &mut answer) {
+        Some(answer.actions.len())
+    } else {
+        None
+    };
+    drop(answer);
+    closed
+}
+
 /// Two call, and a host that is taken in, and the first of them is removed: the octets of each host that was met.
 fn known(rt: &(impl Abort + AllocGlobal)) -> [Option<usize>; 4] {
     let mut node = three(rt);
     let policy = Open::new(config(rt, b"b.example"), 4);
     let _first = called(rt, &mut node, Conn(1), b'b');
     let _second = called(rt, &mut node, Conn(2), b'c');
-    let _none = asked(rt, &mut node, NodeOrder::Accept(Conn(3)));
+    let _none = asked(rt, &mut node, Order::Accept(Conn(3)));
     came(rt, &mut node, Conn(3), CER_OF_B, b'z');
     let _taken = turn(rt, &mut node, &policy, Conn(3));
-    drop(node.remove(0));
+    let _closed = closed(&mut node);
     let hosts = [
         host_met(&node, 0),
         host_met(&node, 1),
@@ -320,10 +334,7 @@ fn removed(rt: &(impl Abort + AllocGlobal)) -> (Option<usize>, bool, bool) {
     let mut node = three(rt);
     let _first = called(rt, &mut node, Conn(1), b'b');
     let _second = called(rt, &mut node, Conn(2), b'c');
-    let closed = match node.remove(0) {
-        Some(actions) => Some(actions.len()),
-        None => None,
-    };
+    let closed = closed(&mut node);
     let left = (node.has(Conn(1)), node.has(Conn(2)));
     drop(node);
     (closed, left.0, left.1)
@@ -340,9 +351,9 @@ fn misled(
 ) {
     let mut node = three(rt);
     let _first = called(rt, &mut node, Conn(1), b'b');
-    let in_use = asked(rt, &mut node, NodeOrder::Start(1, Conn(1)));
-    let nobody = asked(rt, &mut node, NodeOrder::Tick(7));
-    let _none = asked(rt, &mut node, NodeOrder::ResetAll);
+    let in_use = asked(rt, &mut node, Order::Start(1, Conn(1)));
+    let nobody = asked(rt, &mut node, Order::Tick(7));
+    let _none = asked(rt, &mut node, Order::ResetAll);
     let state = node.state_of(0);
     let is_there = node.has(Conn(1));
     drop(node);

@@ -1,7 +1,7 @@
 //! A node of one neighbour on its happy path, and on one that breaks.
 
 use dm_dict::Ip;
-use dm_node::{Alone, Answer, Node, NodeOrder, Told};
+use dm_node::{Alone, Answer, Node, Order, Told};
 use dm_peer::{Config, Conn, State};
 use std::process::Abort;
 
@@ -61,7 +61,7 @@ fn count(answer: &Answer) -> Option<usize> {
 pub(crate) fn asked(
     rt: &(impl Abort + AllocGlobal),
     node: &mut Node,
-    order: NodeOrder<'_>,
+    order: Order<'_>,
 ) -> Option<usize> {
     let mut answer = Answer::new();
     let asked = match node.order(rt.alloc(), order, &mut answer) {
@@ -94,56 +94,57 @@ fn cer_in_halves(
 ) -> (Option<(bool, usize)>, Option<(bool, usize)>, Option<State>) {
     let octets = hex::decode(rt.alloc(), CER_OF_B.as_bytes()).expect(rt, "digits");
     let (front, back) = octets.as_slice().split_at(octets.len() / 2);
-    let _first = asked(rt, node, NodeOrder::Octets(R, front));
+    let _first = node.keep(R, front);
     let before = turn(rt, node);
-    let _second = asked(rt, node, NodeOrder::Octets(R, back));
+    let _second = node.keep(R, back);
     let behind = turn(rt, node);
     drop(octets);
     (before, behind, state(node))
 }
 
-/// Of the piece, how many octets are told where they lie, and how many actions that asks for.
-fn heard(rt: &(impl Abort + AllocGlobal), node: &mut Node, piece: &[u8]) -> Option<(usize, usize)> {
+/// How many octets are taken, whether a message is told, and how many actions that asks for.
+type Heard = (usize, bool, usize);
+
+/// Of the piece, how many octets are taken, whether a message is told, and how many actions that asks for.
+fn heard(rt: &(impl Abort + AllocGlobal), node: &mut Node, piece: &[u8]) -> Heard {
     let mut answer = Answer::new();
     let heard = match node.hear(rt.alloc(), &Alone, R, piece, &mut answer) {
-        Ok(Some(length)) => Some((length, answer.actions.len())),
-        Ok(None) => None,
-        Err(_) => Some((0, 100)),
+        Ok(length) => (length, answer.told == Told::Message, answer.actions.len()),
+        Err(_) => (0, false, 100),
     };
     drop(answer);
     heard
 }
 
-/// What is told where it lies of a CER; of its front, behind it; and of a CER where that front is kept. And the state.
+/// What is heard of a CER; of the front of a watchdog; and of its back with a watchdog behind it. And the state.
 fn cer_in_place(
     rt: &(impl Abort + AllocGlobal),
     node: &mut Node,
-) -> (
-    Option<(usize, usize)>,
-    Option<(usize, usize)>,
-    Option<(usize, usize)>,
-    Option<State>,
-) {
+) -> (Heard, Heard, Heard, Option<State>) {
     let octets = hex::decode(rt.alloc(), CER_OF_B.as_bytes()).expect(rt, "digits");
     let whole = heard(rt, node, octets.as_slice());
-    let front = heard(rt, node, &octets[..octets.len() / 2]);
-    let _kept = asked(rt, node, NodeOrder::Octets(R, &octets[..octets.len() / 2]));
-    let behind = heard(rt, node, octets.as_slice());
     drop(octets);
+    let (front, behind) = dwr_in_halves(rt, node);
     (whole, front, behind, state(node))
 }
 
+/// What is heard of the front of a watchdog, and of its back with its front behind it.
+fn dwr_in_halves(rt: &(impl Abort + AllocGlobal), node: &mut Node) -> (Heard, Heard) {
+    let octets = hex::decode(rt.alloc(), DWR_OF_B.as_bytes()).expect(rt, "digits");
+    let (front, back) = octets.as_slice().split_at(octets.len() / 2);
+    let mut piece = Vec::from_slice(rt.alloc(), back).expect(rt, "memory");
+    piece.extend_from_slice(front).expect(rt, "memory");
+    let first = heard(rt, node, front);
+    let second = heard(rt, node, piece.as_slice());
+    drop(piece);
+    drop(octets);
+    (first, second)
+}
+
 /// What an accepted connection comes to whose CER is told where it lies.
-fn in_place(
-    rt: &(impl Abort + AllocGlobal),
-) -> (
-    Option<(usize, usize)>,
-    Option<(usize, usize)>,
-    Option<(usize, usize)>,
-    Option<State>,
-) {
+fn in_place(rt: &(impl Abort + AllocGlobal)) -> (Heard, Heard, Heard, Option<State>) {
     let mut node = alone(rt);
-    let _none = asked(rt, &mut node, NodeOrder::Accept(R));
+    let _none = asked(rt, &mut node, Order::Accept(R));
     let came = cer_in_place(rt, &mut node);
     drop(node);
     came
@@ -154,7 +155,7 @@ fn accepted(
     rt: &(impl Abort + AllocGlobal),
 ) -> (Option<(bool, usize)>, Option<(bool, usize)>, Option<State>) {
     let mut node = alone(rt);
-    let _none = asked(rt, &mut node, NodeOrder::Accept(R));
+    let _none = asked(rt, &mut node, Order::Accept(R));
     let came = cer_in_halves(rt, &mut node);
     drop(node);
     came
@@ -165,12 +166,12 @@ fn broken(
     rt: &(impl Abort + AllocGlobal),
 ) -> (Option<(bool, usize)>, Option<(bool, usize)>, Option<usize>) {
     let mut node = alone(rt);
-    let _none = asked(rt, &mut node, NodeOrder::Accept(R));
-    let _piece = asked(rt, &mut node, NodeOrder::Octets(R, &[2]));
+    let _none = asked(rt, &mut node, Order::Accept(R));
+    let _piece = node.keep(R, &[2]);
     let fault = turn(rt, &mut node);
-    let _more = asked(rt, &mut node, NodeOrder::Octets(R, &[2]));
+    let _more = node.keep(R, &[2]);
     let again = turn(rt, &mut node);
-    let gone = asked(rt, &mut node, NodeOrder::Gone(R));
+    let gone = asked(rt, &mut node, Order::Gone(R));
     drop(node);
     (fault, again, gone)
 }
@@ -178,11 +179,11 @@ fn broken(
 /// How many actions a Nack of an open connection asks for, and then what a watchdog that comes on it is told as.
 fn nacked(rt: &(impl Abort + AllocGlobal)) -> (Option<usize>, Option<(bool, usize)>) {
     let mut node = alone(rt);
-    let _none = asked(rt, &mut node, NodeOrder::Accept(R));
+    let _none = asked(rt, &mut node, Order::Accept(R));
     let _opened = cer_in_halves(rt, &mut node);
-    let nacked = asked(rt, &mut node, NodeOrder::Nack(R));
+    let nacked = asked(rt, &mut node, Order::Nack(R));
     let octets = hex::decode(rt.alloc(), DWR_OF_B.as_bytes()).expect(rt, "digits");
-    let _fed = asked(rt, &mut node, NodeOrder::Octets(R, octets.as_slice()));
+    let _fed = node.keep(R, octets.as_slice());
     let told = turn(rt, &mut node);
     drop(octets);
     drop(node);
@@ -208,6 +209,11 @@ fn fault_closes_once(rt: HostRuntime) {
 fn cer_in_place_opens(rt: HostRuntime) {
     assert_eq!(rt;
         in_place(&rt),
-        (Some((112, 1)), None, None, Some(State::ROpen))
+        (
+            (112, true, 1),
+            (28, false, 0),
+            (28, true, 1),
+            Some(State::ROpen)
+        )
     );
 }

@@ -2,7 +2,7 @@
 use crate::each::each;
 use crate::nodes::{Call, Driven, call_once, make_driven, policy};
 use crate::rows::{CER, CER_OF_B, SUBMITTED, octets};
-use dm_node::{NodeOrder, Open};
+use dm_node::{Open, Order};
 use dm_peer::Conn;
 use dm_refusal::{End, Subject, worse};
 use std::alloc::Global;
@@ -23,13 +23,13 @@ const CALLS: usize = 7;
 /// Each connection is accepted first.
 fn calls<'a>(telling: &Telling<'a>) -> [Call<'a>; CALLS] {
     [
-        Call::Order(NodeOrder::Start(0, Conn(1))),
-        Call::Order(NodeOrder::Accept(Conn(7))),
+        Call::Order(Order::Start(0, Conn(1))),
+        Call::Order(Order::Accept(Conn(7))),
         Call::Hear(Conn(7), telling.strange),
-        Call::Order(NodeOrder::Nack(Conn(1))),
-        Call::Order(NodeOrder::Accept(Conn(9))),
+        Call::Order(Order::Nack(Conn(1))),
+        Call::Order(Order::Accept(Conn(9))),
         Call::Hear(Conn(9), telling.known),
-        Call::Order(NodeOrder::Submit(0, telling.message)),
+        Call::Order(Order::Submit(0, telling.message)),
     ]
 }
 

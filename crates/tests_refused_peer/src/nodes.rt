@@ -2,7 +2,7 @@
 use crate::each::each;
 use crate::peers::{are_same, config, node};
 use crate::rows::{CER, CER_OF_B, CER_OF_C, SUBMITTED, octets};
-use dm_node::{AddFault, Answer, Config, Conn, EventFault, Node, NodeOrder, Open, PeerFault};
+use dm_node::{AddFault, Answer, Config, Conn, Node, Open, Order, OrderFault, PeerFault};
 use dm_refusal::{End, Subject, answered, refuse, repeated, was_refused, worse};
 use std::alloc::{AllocError, Global};
 use std::process::Abort;
@@ -38,11 +38,13 @@ pub fn policy(rt: &(impl Abort + AllocGlobal)) -> Open {
 #[derive(Clone, Copy)]
 pub enum Call<'a> {
     /// An order is given.
-    Order(NodeOrder<'a>),
-    /// What came on a connection is told, by no policy or by one.
+    Order(Order<'a>),
+    /// What came on a connection is kept.
+    Keep(Conn, &'a [u8]),
+    /// It is told, by no policy or by one.
     Next(Conn),
     NextBy(Conn),
-    /// A message is told where it lies, by no policy or by one.
+    /// What comes on a connection is heard, by no policy or by one.
     Hear(Conn, &'a [u8]),
     HearBy(Conn, &'a [u8]),
 }
@@ -51,27 +53,27 @@ pub enum Call<'a> {
 #[derive(Clone, Copy, PartialEq, Eq)]
 enum Reply {
     Memory,
-    Fault(EventFault),
-    /// So many octets were told where they lie.
-    Done(Option<usize>),
+    Fault(OrderFault),
+    /// So many octets were taken.
+    Done(usize),
 }
 
-fn ordered(done: Result<(), EventFault>) -> Reply {
+fn ordered(done: Result<(), OrderFault>) -> Reply {
     match done {
-        Ok(()) => Reply::Done(None),
-        Err(EventFault::Peer(PeerFault::NoMemory)) => Reply::Memory,
+        Ok(()) => Reply::Done(0),
+        Err(OrderFault::Peer(PeerFault::NoMemory)) => Reply::Memory,
         Err(fault) => Reply::Fault(fault),
     }
 }
 
 fn told(done: Result<(), AllocError>) -> Reply {
     match done {
-        Ok(()) => Reply::Done(None),
+        Ok(()) => Reply::Done(0),
         Err(_) => Reply::Memory,
     }
 }
 
-fn heard(found: Result<Option<usize>, AllocError>) -> Reply {
+fn heard(found: Result<usize, AllocError>) -> Reply {
     match found {
         Ok(length) => Reply::Done(length),
         Err(_) => Reply::Memory,
@@ -82,6 +84,7 @@ fn respond(alloc: Global, it: &mut Driven, policy: &Open, call: Call<'_>) -> Rep
     let (node, answer) = (&mut it.node, &mut it.answer);
     match call {
         Call::Order(order) => ordered(node.order(alloc, order, answer)),
+        Call::Keep(conn, piece) => told(node.keep(conn, piece)),
         Call::Next(conn) => told(node.next(alloc, &(), conn, answer)),
         Call::NextBy(conn) => told(node.next(alloc, policy, conn, answer)),
         Call::Hear(conn, piece) => heard(node.hear(alloc, &(), conn, piece, answer)),
@@ -177,27 +180,28 @@ fn coming<'a>(run: &Run<'a>) -> Call<'a> {
     if run.is_in_place {
         Call::HearBy(Conn(8), run.permitted)
     } else {
-        Call::Order(NodeOrder::Octets(Conn(8), run.permitted))
+        Call::Keep(Conn(8), run.permitted)
     }
 }
 
 /// A connect that can't be made; a stranger; b.example, which calls; c.example, which is permitted, and breaks off.
 fn calls<'a>(run: &Run<'a>) -> [Call<'a>; CALLS] {
+    let (front, back) = run.message.split_at(run.message.len() / 2);
     [
-        Call::Order(NodeOrder::Start(0, Conn(1))),
-        Call::Order(NodeOrder::Nack(Conn(1))),
-        Call::Order(NodeOrder::Accept(Conn(7))),
-        Call::Order(NodeOrder::Octets(Conn(7), run.strange)),
+        Call::Order(Order::Start(0, Conn(1))),
+        Call::Order(Order::Nack(Conn(1))),
+        Call::Order(Order::Accept(Conn(7))),
+        Call::Keep(Conn(7), run.strange),
         Call::Next(Conn(7)),
-        Call::Order(NodeOrder::Accept(Conn(9))),
+        Call::Order(Order::Accept(Conn(9))),
         Call::Hear(Conn(9), run.known),
-        Call::Order(NodeOrder::Submit(0, run.message)),
-        Call::Order(NodeOrder::Accept(Conn(8))),
+        Call::Order(Order::Submit(0, run.message)),
+        Call::Order(Order::Accept(Conn(8))),
         coming(run),
         Call::NextBy(Conn(8)),
-        Call::Order(NodeOrder::Octets(Conn(8), run.message)),
-        Call::NextBy(Conn(8)),
-        Call::Order(NodeOrder::Gone(Conn(9))),
+        Call::HearBy(Conn(8), front),
+        Call::HearBy(Conn(8), back),
+        Call::Order(Order::Gone(Conn(9))),
     ]
 }
 

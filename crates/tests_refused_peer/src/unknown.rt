@@ -2,7 +2,7 @@
 use crate::each::each;
 use crate::peers::{config, node};
 use crate::rows::CER_OF_B;
-use dm_node::{Answer, Node, NodeOrder, Open, Strangers};
+use dm_node::{Answer, Node, Open, Order, Strangers};
 use dm_peer::{Config, Conn, State};
 use dm_refusal::{End, Subject, answered, refuse, repeated, was_refused};
 use std::alloc::{AllocError, Global};
@@ -36,18 +36,18 @@ impl Strangers for Permits {
 const CONN: Conn = Conn(9);
 
 /// How many octets are told where they lie of what comes on the connection.
-type Heard = Result<Option<usize>, AllocError>;
+type Heard = Result<usize, AllocError>;
 
 /// Whether the host was taken in, and is open.
 fn is_taken(node: &Node, heard: &Heard, answer: &Answer) -> bool {
     match heard {
-        Ok(Some(_)) => {
+        Ok(_) => {
             answer.neighbour == Some(0)
                 && answer.actions.len() == 1
                 && node.find(b"b.example") == Some(0)
                 && node.state_of(0) == Some(State::ROpen)
         }
-        Ok(None) | Err(_) => false,
+        Err(_) => false,
     }
 }
 
@@ -98,7 +98,7 @@ fn hear<S: Strangers>(
 /// Somebody makes the connection.
 fn accept(rt: &(impl Abort + AllocGlobal), node: &mut Node) {
     let mut answer = Answer::new();
-    let accepted = node.order(rt.alloc(), NodeOrder::Accept(CONN), &mut answer);
+    let accepted = node.order(rt.alloc(), Order::Accept(CONN), &mut answer);
     drop(answer);
     assert!(rt; accepted.is_ok());
 }

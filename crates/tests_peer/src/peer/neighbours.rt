@@ -2,14 +2,14 @@
 use super::config;
 use super::nodes::{add, asked, heard, new_node};
 use super::octets::{CER, CER_OF_B};
-use dm_node::{AddFault, Answer, Conn, Node, NodeOrder};
+use dm_node::{AddFault, Answer, Conn, Node, Order};
 use dm_peer::State;
 use std::process::Abort;
 
 /// What happens to a node: an order, or a message of these digits on a connection that somebody makes.
 #[derive(Clone, Copy, Debug)]
 enum Happening<'a> {
-    Order(NodeOrder<'a>),
+    Order(Order<'a>),
     Call(u64, &'a str),
 }
 
@@ -27,7 +27,7 @@ const CASES: &[Case<'static>] = &[
         State::Closed,
     ),
     (
-        Happening::Order(NodeOrder::Start(1, Conn(3))),
+        Happening::Order(Order::Start(1, Conn(3))),
         Some(1),
         1,
         State::ROpen,
@@ -41,14 +41,14 @@ const CASES: &[Case<'static>] = &[
         State::WaitConnAck,
     ),
     (
-        Happening::Order(NodeOrder::Gone(Conn(5))),
+        Happening::Order(Order::Gone(Conn(5))),
         None,
         0,
         State::ROpen,
         State::WaitConnAck,
     ),
     (
-        Happening::Order(NodeOrder::Nack(Conn(3))),
+        Happening::Order(Order::Nack(Conn(3))),
         Some(1),
         0,
         State::ROpen,
@@ -60,7 +60,7 @@ const CASES: &[Case<'static>] = &[
 fn ordered(
     rt: &(impl Abort + AllocGlobal),
     node: &mut Node,
-    order: NodeOrder<'_>,
+    order: Order<'_>,
     answer: &mut Answer,
 ) -> Option<(Option<usize>, usize)> {
     match node.order(rt.alloc(), order, answer) {

@@ -1,6 +1,6 @@
 //! Nodes of many neighbours, as their tests drive them.
 use super::{config, node, octets_of};
-use dm_node::{Answer, Conn, Node, NodeOrder, Strangers};
+use dm_node::{Answer, Conn, Node, Order, Strangers, Told};
 use std::process::Abort;
 
 /// A node a.example without neighbours.
@@ -30,11 +30,11 @@ pub(super) fn heard(
     answer: &mut Answer,
 ) -> Option<(Option<usize>, usize)> {
     let octets = octets_of(rt, digits);
-    let accepted = node.order(rt.alloc(), NodeOrder::Accept(conn), answer);
+    let accepted = node.order(rt.alloc(), Order::Accept(conn), answer);
     let heard = node
         .hear(rt.alloc(), strangers, conn, octets.as_slice(), answer)
         .expect(rt, "memory");
-    let is_whole = accepted.is_ok() && heard == Some(octets.len());
+    let is_whole = accepted.is_ok() && heard == octets.len() && answer.told == Told::Message;
     drop(octets);
     if is_whole { Some(asked(answer)) } else { None }
 }

@@ -2,7 +2,7 @@
 use super::nodes::{add, asked, new_node};
 use super::octets::{BARE_CER, BARE_DWR, CER, CER_OF_B, CER_OF_WINNER, DWR_OF_B, SUBMITTED};
 use super::{octets_of, peer};
-use dm_node::{Alone, Answer, Conn, Node, NodeOrder, Told};
+use dm_node::{Alone, Answer, Conn, Node, Order, Told};
 use dm_peer::{Action, Event, Peer};
 use std::process::Abort;
 
@@ -39,8 +39,8 @@ fn tell_first(
     octets: &[u8],
     answer: &mut Answer,
 ) {
-    let accepted = node.order(rt.alloc(), NodeOrder::Accept(conn), answer);
-    let kept = node.order(rt.alloc(), NodeOrder::Octets(conn, octets), answer);
+    let accepted = node.order(rt.alloc(), Order::Accept(conn), answer);
+    let kept = node.keep(conn, octets);
     let told = node.next(rt.alloc(), &Alone, conn, answer);
     assert!(rt; accepted.is_ok() && kept.is_ok() && told.is_ok());
 }
@@ -150,12 +150,20 @@ fn assert_cases(rt: &(impl Abort + AllocGlobal), node: &mut Node, cases: &[Conce
     drop(answer);
 }
 
+/// The first neighbour goes, which holds nothing.
+fn is_removed(node: &mut Node) -> bool {
+    let mut answer = Answer::new();
+    let is_removed = node.remove(0, &mut answer) && answer.actions.is_empty();
+    drop(answer);
+    is_removed
+}
+
 fn assert_porter(rt: &(impl Abort + AllocGlobal)) {
     let mut node = new_node(rt);
     add(rt, &mut node, b"c.example");
     add(rt, &mut node, b"b.example");
     assert_cases(rt, &mut node, WITH_THE_FIRST);
-    assert!(rt; node.remove(0).is_some());
+    assert!(rt; is_removed(&mut node));
     assert_cases(rt, &mut node, WITHOUT_IT);
     drop(node);
 }

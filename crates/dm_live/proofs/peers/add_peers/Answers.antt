@@ -10,7 +10,7 @@ use Rattle.dm_live.proofs.peers.add_peers.Goals as goal
 pub host-preserved : goal.host-preserved
 host-preserved c =
     let s = settings_of c.args.draft.now in
-    let t = node_state_of c.host.session in
+    let t = node_state_of c.host.node in
     let host = c.as_slice.result.now in
     let more = c.in-Some.more.now in
     let Left : List (List ℕ) → Type 0 = λ v. Joining s v t in
@@ -18,7 +18,7 @@ host-preserved c =
     c.in-Some.ensures.cases.0 ∙ ap (λ v. v ∷ more) (sym c.as_slice.ensures) in
     let added = c.in_ok-name.ensures in
     let is = c.in_default-2.is in (
-      joining_more s (first_told s.peers) c.args.template.now host more t (node_state_of c.add_peer.new.session)
+      joining_more s (first_told s.peers) c.args.template.now host more t (node_state_of c.add_peer.new.node)
           c.requires.made (subst Left left c.host.invariant.0) (ok-holds _ _ _ is added.added)
           (ok-holds _ _ _ is added.fit) (ok-holds _ _ _ is added.new),
       unmet_more _ _ c.host.invariant.1 (ok-holds _ _ _ is added.unmet),
@@ -27,7 +27,7 @@ host-preserved c =
 pub returns-in-Err-clause-fault : goal.returns-in-Err-clause-fault
 returns-in-Err-clause-fault c =
     let s = settings_of c.args.draft.now in
-    let t = node_state_of c.host.session in
+    let t = node_state_of c.host.node in
     let host = c.as_slice.result.now in
     let more = c.in-Some.more.now in
     let Left : List (List ℕ) → Type 0 = λ v. Joining s v t in

@@ -8,7 +8,7 @@ use Rattle.dm_live.proofs.peers.add_peers.Given as goal
 -- the hosts so far are neighbours that met nobody, and the rest is left
 abbrev pub invariant-host : goal.invariant-host
 invariant-host l =
-    Joining (settings_of l.draft) l.rest (node_state_of l.session) × AreUnmet (node_known_of l.session)
+    Joining (settings_of l.draft) l.rest (node_state_of l.node) × AreUnmet (node_known_of l.node)
 
 abbrev pub decreases-host : goal.decreases-host
 decreases-host l = length l.rest

@@ -1,5 +1,5 @@
 -- The law as it is proved.
-use Rattle.dm_node.proofs.Stepping.{order_is_steps, turn_is_steps, heard_is_steps, adding, removing}
+use Rattle.dm_node.proofs.Stepping.{order_is_steps, turn_is_steps, adding, removing}
 use Rattle.dm_node.proofs.laws.calls_are_steps.Goals as goal
 
 pub returns-clause-order : goal.returns-clause-order
@@ -7,9 +7,6 @@ returns-clause-order c = order_is_steps
 
 pub returns-clause-turn : goal.returns-clause-turn
 returns-clause-turn c = turn_is_steps
-
-pub returns-clause-heard : goal.returns-clause-heard
-returns-clause-heard c = heard_is_steps
 
 pub returns-clause-added : goal.returns-clause-added
 returns-clause-added c = adding

@@ -5,12 +5,12 @@ use Rattle.dm_live.proofs.live.Live.answer_line.Goals as goal
 
 pub returns-then-is_go : goal.returns-then-is_go
 returns-then-is_go c =
-    let put = c.put_begun.ensures in
-    gone_line c.args.number c.args.line.now c.args.self.now c.put_begun.new.self c.in_ok-begun.begun _ _
+    let put = c.set_begun.ensures in
+    gone_line c.args.number c.args.line.now c.args.self.now c.set_begun.new.self c.in_ok-begun.begun _ _
     c.in_default.is put.draft put.begun (c.is_go.ensures.told c.if-is_go.true) c.in_ok-begun.ensures
 
 pub returns-in-Running : goal.returns-in-Running
 returns-in-Running c =
     running_line _ c.args.number c.args.line.now (settings_of c.args.self.now.draft) c.args.self.now.begun
-    c.in-Running.form c.in-Running.session (meeting_of c.answer_told.new.session) _ _ c.in-Running.is
+    c.in-Running.form c.in-Running.node (meeting_of c.answer_told.new.node) _ _ c.in-Running.is
     c.answer_told.ensures

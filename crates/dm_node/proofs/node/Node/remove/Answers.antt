@@ -5,7 +5,7 @@ use Rattle.dm_node.specs.Holding.{peer_at}
 use Rattle.dm_node.specs.NodeKnown.{known_of, AreKnown}
 use Rattle.dm_node.specs.NodeSeen.{node_state_of}
 use Rattle.dm_node.proofs.NodeKnowing.{known_fewer}
-use Rattle.dm_node.proofs.NodeStaying.{session_is}
+use Rattle.dm_node.proofs.NodeStaying.{node_is}
 use Rattle.dm_node.proofs.NodeEmptying.{held_set, kept_without}
 use Rattle.dm_node.proofs.Owning.{owned_set}
 use Rattle.dm_node.proofs.node.Node.remove.Goals as goal
@@ -29,5 +29,5 @@ invariant_of-self c =
 
 pub returns-clause-without : goal.returns-clause-without
 returns-clause-without c =
-    session_is (node_state_of c.args.self.now) _ _ _ _ _ _ c.remove-gone.ensures.node c.remove-gone.ensures.without
+    node_is (node_state_of c.args.self.now) _ _ _ _ _ _ c.remove-gone.ensures.node c.remove-gone.ensures.without
     (c.shut_held.ensures.shut (peer_at c.args.self.now.neighbours.peers c.args.index) c.holding-held.ensures.holds)

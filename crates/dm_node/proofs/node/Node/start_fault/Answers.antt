@@ -11,7 +11,7 @@ returns-in-Some-clause-declined c =
     let peer = c.in-Some.peer.now in
     let at = sym c.peer.ensures ∙ ap option_copied c.in-Some.is in
     each_fault _ c.start_rule.result (start_refusal peer.standing.core.state) c.start_rule.ensures
-    (start_declined ps c.args.index c.args.conn c.requires peer at c.refusals_go_by_rule.ensures
+    (start_declined ps c.args.index c.args.conn peer at c.refusals_go_by_rule.ensures
     (c.args.self.now.kept c.args.index peer at))
 
 pub returns-in-Some-clause-rule : goal.returns-in-Some-clause-rule
@@ -20,4 +20,4 @@ returns-in-Some-clause-rule c =
     let peer = c.in-Some.peer.now in
     let at = sym c.peer.ensures ∙ ap option_copied c.in-Some.is in
     each_fault _ c.start_rule.result (start_refusal peer.standing.core.state) c.start_rule.ensures
-    (start_ruled ps c.args.index c.args.conn c.requires peer at)
+    (start_ruled ps c.args.index c.args.conn peer at)

@@ -1,13 +1,10 @@
 -- The fault at the front is told, and what came goes.
-use Rattle.std.proofs.Common.{refl, sym, ap, ◌∙◌, subst, []}
-use Rattle.dm_slots.specs.Acquaintances.{known_after}
+use Rattle.std.proofs.Common.{refl, sym, subst, []}
 use Rattle.dm_slots.specs.Intakes.{broken_intake}
 use Rattle.dm_slots.specs.Held.{intakes_of, owners_of}
 use Rattle.dm_node.specs.NodeHeld.{AllHeldAreThere}
-use Rattle.dm_node.specs.NodeSeen.{node_state_of, node_known_of}
-use Rattle.dm_node.specs.NodeStates.{NodeState}
-use Rattle.dm_node.specs.Answers.{as_answer}
-use Rattle.dm_node.proofs.NodeKnowing.{met_settled, none_calls}
+use Rattle.dm_node.specs.NodeSeen.{node_state_of}
+use Rattle.dm_node.proofs.NodeKnowing.{none_calls}
 use Rattle.dm_node.proofs.NodeStaying.{held_with, arrived_there, settled_as}
 use Rattle.dm_node.proofs.Owning.{owned_same}
 use Rattle.dm_node.proofs.node.Node.tell_fault.Goals as goal
@@ -18,7 +15,6 @@ returns-in-Ok-clause-told g c =
     let old = node_state_of c.args.self.now in
     let answer = c.tell_event.new.answer in
     let qs = c.tell_event.new.neighbours.peers in
-    let gone = c.reown.ensures.intakes ∙ c.break_off.ensures.broken at.0 at.1 in
     record {
       intake = at.0;
       there = at.1;
@@ -26,24 +22,16 @@ returns-in-Ok-clause-told g c =
       told = record {
         peers = qs;
         moved = c.in-Ok.ensures.told;
-        left = c.settle.ensures.settled ∙
-            settled_as old c.tell_event.new.neighbours.node qs answer.neighbour answer.actions.items _ _
-            c.tell_event.ensures.node gone;
+        left = settled_as old c.tell_event.new.neighbours.node qs answer.neighbour answer.actions.items _ _ _
+            c.tell_event.ensures.node c.settle.ensures.settled (c.break_off.ensures.broken at.0 at.1);
       };
     }
 
 pub invariant_of-self : goal.invariant_of-self
 invariant_of-self g c =
-    let at = c.requires.fault in
-    let old = intakes_of c.args.self.now.intakes in
-    let qs = c.tell_event.new.neighbours.peers in
-    let gone = c.reown.ensures.intakes ∙ c.break_off.ensures.broken at.0 at.1 in
-    let held = c.tell_event.ensures.held old c.args.self.now.held
-    (arrived_there c.args.conn [] at.0 old at.1) in
     record {
-      held = subst (AllHeldAreThere qs) (sym gone)
-          (held_with c.what_is_there_stays.ensures.told qs c.args.conn.0 (broken_intake at.0) old held);
-      owned = c.reown.ensures.owned c.args.self.now.neighbours.peers c.in-Ok.ensures.before
+      held = c.settle.ensures.held;
+      owned = c.settle.ensures.owned c.args.self.now.neighbours.peers c.in-Ok.ensures.before
           (owned_same c.args.self.now.neighbours.peers (owners_of c.args.self.now.intakes)
           (owners_of c.break_off.new.self) c.break_off.ensures.owners c.args.self.now.owned);
       kept = c.tell_event.ensures.kept;
@@ -53,24 +41,15 @@ invariant_of-self g c =
 pub returns-in-Err-clause-memory : goal.returns-in-Err-clause-memory
 returns-in-Err-clause-memory g c = c.in-Err.ensures.memory c.args.conn [] refl
 
-pub returns-in-Ok-clause-met : goal.returns-in-Ok-clause-met
-returns-in-Ok-clause-met g c =
-    let answer = c.tell_event.new.answer in
-    met_settled known_after (as_answer answer).neighbour c.args.self.now.neighbours.peers
-    c.tell_event.new.neighbours.peers _ (node_known_of c.args.self.now) _ _
-    (ap (λ (t : NodeState). t.peers) c.settle.ensures.settled) c.settle.ensures.known c.in-Ok.ensures.met
-
 -- no octets are no stranger's CER
 pub tell_event-requires-clause-calm : goal.tell_event-requires-clause-calm
 tell_event-requires-clause-calm g c = none_calls
 
-pub reown-requires : goal.reown-requires
-reown-requires g c =
+pub settle-requires-clause-there : goal.settle-requires-clause-there
+settle-requires-clause-there g c =
     let at = c.requires.fault in
     let old = intakes_of c.args.self.now.intakes in
     let qs = c.tell_event.new.neighbours.peers in
-    record {
-      there = subst (AllHeldAreThere qs) (sym (c.break_off.ensures.broken at.0 at.1))
-          (held_with c.what_is_there_stays.ensures.told qs c.args.conn.0 (broken_intake at.0) old
-          (c.tell_event.ensures.held old c.args.self.now.held (arrived_there c.args.conn [] at.0 old at.1)));
-    }
+    subst (AllHeldAreThere qs) (sym (c.break_off.ensures.broken at.0 at.1))
+    (held_with c.what_is_there_stays.ensures.told qs c.args.conn.0 (broken_intake at.0) old
+    (c.tell_event.ensures.held old c.args.self.now.held (arrived_there c.args.conn [] at.0 old at.1)))

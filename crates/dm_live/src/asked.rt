@@ -1,0 +1,12 @@
+//! What who drives a node by lines tells it.
+use dm_machine::Conn;
+use dm_node::Order;
+
+/// What a line asks of a node.
+#[derive(Clone, Copy, Debug)]
+pub enum Asked<'a> {
+    /// That it takes an order.
+    Order(Order<'a>),
+    /// That it is told a piece that came on a connection.
+    Piece(Conn, &'a [u8]),
+}

@@ -1,0 +1,91 @@
+-- What stands at the front is told, and goes, and whom it met is known.
+use Rattle.std.proofs.Common.{refl, sym, subst, inl, inr}
+use Rattle.dm_slots.specs.Held.{intakes_of, owners_of}
+use Rattle.dm_node.specs.NodeHeld.{AllHeldAreThere}
+use Rattle.dm_node.specs.NodeKnown.{known_of, NodeMeetsMessage}
+use Rattle.dm_node.specs.NodeSeen.{node_state_of, node_known_of}
+use Rattle.dm_node.specs.NodeStates.{NodeTellsMessage}
+use Rattle.dm_node.specs.Answers.{as_answer}
+use Rattle.dm_node.proofs.NodeStaying.{held_with, arrived_there, node_at, settled_as}
+use Rattle.dm_node.proofs.Owning.{owned_same}
+use Rattle.dm_node.proofs.node.Node.next.Goals as goal
+
+pub returns-in-Ok-clause-turn : goal.returns-in-Ok-clause-turn
+returns-in-Ok-clause-turn g c =
+    let policy = g.S.Strangers.policy c.args.strangers.now in
+    let at = c.in-Message.ensures in
+    let old = node_state_of c.args.self.now in
+    let qs = c.tell_message.new.neighbours.peers in
+    let gone = c.skip.ensures.skipped at.0 c.in-Message.message.now at.1 at.2 at.3 in
+    let told : NodeTellsMessage policy c.args.conn old (as_answer c.tell_message.new.answer)
+    (node_at old c.tell_message.new.neighbours.node qs (intakes_of c.settle.new.slots)) =
+    record {
+      intake = at.0;
+      message = c.in-Message.message.now;
+      rest = at.1;
+      there = at.2;
+      first = at.3;
+      told = record {
+        peers = qs;
+        moved = c.in-Ok.ensures.told;
+        left = settled_as old c.tell_message.new.neighbours.node qs c.tell_message.new.answer.neighbour
+            c.tell_message.new.answer.actions.items _ _ _ c.tell_message.ensures.node c.settle.ensures.settled gone;
+      };
+    } in
+    (refl, told)
+
+pub invariant_of-self-in-Ok : goal.invariant_of-self-in-Ok
+invariant_of-self-in-Ok g c =
+    record {
+      held = c.settle.ensures.held;
+      owned = c.settle.ensures.owned c.args.self.now.neighbours.peers c.in-Ok.ensures.before
+          (owned_same c.args.self.now.neighbours.peers (owners_of c.args.self.now.intakes)
+          (owners_of c.skip.new.self) c.skip.ensures.owners c.args.self.now.owned);
+      kept = c.tell_message.ensures.kept;
+      met = c.tell_message.ensures.places;
+    }
+
+pub returns-in-Err-clause-memory : goal.returns-in-Err-clause-memory
+returns-in-Err-clause-memory g c =
+    let at = c.in-Message.ensures in
+    elim c.in-Err.ensures.memory [
+      | inl wants ↦ inl (inl (at.0, c.in-Message.message.now, at.1, at.2, at.3, wants))
+      | inr copied ↦ inr (record {
+        intake = at.0;
+        message = c.in-Message.message.now;
+        rest = at.1;
+        there = at.2;
+        first = at.3;
+        copied = copied;
+      })
+    ]
+
+pub returns-in-Ok-clause-met : goal.returns-in-Ok-clause-met
+returns-in-Ok-clause-met g c =
+    let at = c.in-Message.ensures in
+    let old = node_state_of c.args.self.now in
+    let qs = c.tell_message.new.neighbours.peers in
+    let new = node_at old c.tell_message.new.neighbours.node qs (intakes_of c.settle.new.slots) in
+    let ks = node_known_of c.args.self.now in
+    let ls = known_of c.tell_message.new.known in
+    let answer = as_answer c.tell_message.new.answer in
+    let message = c.in-Message.message.now in
+    let met : NodeMeetsMessage c.args.conn old answer new ks ls = record {
+      intake = at.0;
+      message = message;
+      rest = at.1;
+      there = at.2;
+      first = at.3;
+      known = c.in-Ok.ensures.met;
+    } in
+    met
+
+pub settle-requires-clause-there : goal.settle-requires-clause-there
+settle-requires-clause-there g c =
+    let at = c.in-Message.ensures in
+    let message = c.in-Message.message.now in
+    let old = intakes_of c.args.self.now.intakes in
+    let qs = c.tell_message.new.neighbours.peers in
+    subst (AllHeldAreThere qs) (sym (c.skip.ensures.skipped at.0 message at.1 at.2 at.3))
+    (held_with c.what_is_there_stays.ensures.told qs c.args.conn.0 (record at.0 { octets = at.1 }) old
+    (c.tell_message.ensures.held old c.args.self.now.held (arrived_there c.args.conn message at.0 old at.2)))

@@ -1,0 +1,66 @@
+//! What is left behind an event: whose the connections are, what is closed, and which take longer messages.
+ghost use Rattle.std.specs.Prelude.{◌≡◌, true, List, Option};
+ghost use Rattle.dm_machine.specs.declared.connection.Conn.{Conn};
+ghost use Rattle.dm_node.specs.NodeHeld.{AllHeldAreThere};
+ghost use Rattle.dm_node.specs.NodeStates.{concerned_in, raised_for};
+ghost use Rattle.dm_node.specs.Owning.{AreOwned, IsReowned};
+ghost use Rattle.dm_node.specs.Telling.{IsFree};
+ghost use Rattle.dm_peer.specs.declared.peer.Peer.{Peer};
+ghost use Rattle.dm_slots.specs.Held.{intakes_of, owners_of};
+ghost use Rattle.dm_slots.specs.Intakes.{actions_close, left_by};
+ghost use Rattle.dm_slots.specs.Raised.{raised};
+
+use crate::Answer;
+use crate::neighbours::Neighbours;
+use crate::owners::{Holding, reown};
+use dm_peer::Peer;
+use dm_slots::Slots;
+use dm_slots::laws::what_is_there_stays;
+
+/// What the peer holds, where it is open, takes messages of at most `most` octets.
+fn raise_held(peer: &Peer, slots: &mut Slots, most: u32)
+    ensures owners { owners_of slots.new ≡ owners_of slots.old }
+    ensures raised { intakes_of slots.new ≡ raised most peer.now (intakes_of slots.old) }
+{
+    let own = peer.initiated();
+    let other = peer.accepted();
+    slots.raise_open(peer.is_open(), own, other, most);
+}
+
+/// What the neighbour of the number holds, where there is one and it is open, takes messages of at most `most` octets.
+fn raise_for(neighbours: &Neighbours, slots: &mut Slots, index: Option<usize>, most: u32)
+    ensures owners { owners_of slots.new ≡ owners_of slots.old }
+    ensures raised { intakes_of slots.new
+        ≡ raised_for most (concerned_in neighbours.now.peers index) (intakes_of slots.old) }
+{
+    if let Some(index) = index {
+        if let Some(peer) = neighbours.peer(index) {
+            raise_held(peer, slots, most);
+        }
+    }
+}
+
+/// Behind an event that was told: its neighbour, if it is of one, holds what it holds now, and held this before; what
+/// the answer closes is no more there; and what the neighbour holds takes messages of at most `most` octets where it
+/// is open.
+#[inline(always)]
+pub(crate) fn settle(
+    neighbours: &Neighbours,
+    slots: &mut Slots,
+    before: Holding,
+    most: u32,
+    answer: &Answer,
+)
+    requires there { AllHeldAreThere neighbours.now.peers (intakes_of slots.old) }
+    requires free { (c : Conn) → actions_close answer.now.actions.items c.0 ≡ true → IsFree neighbours.now.peers c }
+    ensures settled { intakes_of slots.new ≡ raised_for most (concerned_in neighbours.now.peers answer.now.neighbour)
+        (left_by answer.now.actions.items (intakes_of slots.old)) }
+    ensures held { AllHeldAreThere neighbours.now.peers (intakes_of slots.new) }
+    ensures owned { (ps : List (Option Peer)) → IsReowned ps neighbours.now.peers answer.now.neighbour before
+        → AreOwned (owners_of slots.old) ps → AreOwned (owners_of slots.new) neighbours.now.peers }
+{
+    what_is_there_stays();
+    reown(neighbours, slots, before, answer.neighbour);
+    slots.leave(answer.actions.as_slice());
+    raise_for(neighbours, slots, answer.neighbour, most);
+}

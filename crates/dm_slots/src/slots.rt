@@ -1,0 +1,314 @@
+//! The connections that are there, by number.
+ghost use Rattle.std.specs.Prelude.{◌≡◌, ◌∷◌, [], ℕ, true, false, List, Some, IfSome, IfNone, IfOk, cond, take};
+ghost use Rattle.std.specs.Prelude.{OnOk, OnErr};
+ghost use Rattle.std.specs.Option.{option_copied, option_map};
+ghost use Rattle.dm_slots.specs.Intakes.{none_there, is_there, opened, taken_down, changed, raised_at, left_by};
+ghost use Rattle.dm_slots.specs.Intakes.{fed_intake, unfed_intake, broken_intake, with_intake, IsFirst};
+ghost use Rattle.dm_slots.specs.Intakes.{Intake as OneIntake};
+ghost use Rattle.dm_slots.specs.Fronts.{IsFrontAt};
+ghost use Rattle.dm_slots.specs.Hearing.{IsWholeAt, IsNotWhole, TakesFrontAt};
+ghost use Rattle.dm_slots.specs.Held.{intakes_of, owners_of, owner_in, no_owner, owned_by, disowned_by, closed_by};
+
+use crate::intake::{Front, Intake};
+use dm_machine::Conn;
+use dm_peer::Action;
+use indexmap::IndexMap;
+use std::alloc::{AllocError, Global};
+
+/// A connection that is there.
+#[derive(Drop)]
+pub(crate) struct Slot {
+    /// What came on it and wasn't told yet.
+    intake: Intake,
+    /// Whose it is: a number that who keeps the connections gives it.
+    owner: Option<usize>,
+}
+
+/// The connections that are there, by number, each with what came on it and wasn't told yet, and with its owner. Who
+/// drives peers has them beside those.
+#[derive(Drop)]
+pub struct Slots {
+    map: IndexMap<u64, Slot>,
+    /// Where the connection stood whose limit was asked for last. Who looks one up looks there first.
+    last: usize,
+}
+
+impl Slots {
+    /// No connections. It never answers want of memory.
+    pub fn new(alloc: Global) -> Slots
+        ensures none { intakes_of result ≡ none_there }
+        ensures owners { owners_of result ≡ no_owner }
+    {
+        Slots {
+            map: IndexMap::new(alloc),
+            last: 0,
+        }
+    }
+
+    /// The connection, where it is there.
+    fn slot(&self, conn: Conn) -> Option<&Slot>
+        ensures intake { option_map (λ s. s.intake) (option_copied result) ≡ intakes_of self.now conn.0 }
+        ensures owner { owner_in (option_copied result) ≡ owners_of self.now conn.0 }
+    {
+        match self.map.get_index(self.last) {
+            Some((number, slot)) if *number == conn.0 => Some(slot),
+            _ => self.map.get(&conn.0),
+        }
+    }
+
+    /// What came on the connection, where it is there.
+    fn get(&self, conn: Conn) -> Option<&Intake>
+        ensures { option_copied result ≡ intakes_of self.now conn.0 }
+    {
+        match self.slot(conn) {
+            Some(slot) => Some(&slot.intake),
+            None => None,
+        }
+    }
+
+    /// Whose the connection is, where it is there and has an owner. It never answers want of memory.
+    pub fn owner(&self, conn: Conn) -> Option<usize>
+        ensures { result ≡ owners_of self.now conn.0 }
+    {
+        match self.slot(conn) {
+            Some(slot) => slot.owner,
+            None => None,
+        }
+    }
+
+    /// The connection, if it is one and there, is nobody's. It never answers want of memory.
+    pub fn disown(&mut self, conn: Option<Conn>)
+        ensures intakes { intakes_of self.new ≡ intakes_of self.old }
+        ensures owners { owners_of self.new ≡ disowned_by conn (owners_of self.old) }
+    {
+        if let Some(conn) = conn {
+            if let Some(slot) = self.map.get_mut(&conn.0) {
+                slot.owner = None;
+            }
+        }
+    }
+
+    /// The connection, if it is one and there, is of this owner. It never answers want of memory.
+    pub fn own(&mut self, conn: Option<Conn>, owner: usize)
+        ensures intakes { intakes_of self.new ≡ intakes_of self.old }
+        ensures owners { ((c : Conn) → conn ≡ Some c → is_there c.0 (intakes_of self.old) ≡ true)
+            → owners_of self.new ≡ owned_by conn owner (owners_of self.old) }
+    {
+        if let Some(conn) = conn {
+            if let Some(slot) = self.map.get_mut(&conn.0) {
+                slot.owner = Some(owner);
+            }
+        }
+    }
+
+    /// Whether the connection is there. It never answers want of memory.
+    pub fn has(&self, conn: Conn) -> bool
+        ensures { result ≡ is_there conn.0 (intakes_of self.now) }
+    {
+        self.get(conn).is_some()
+    }
+
+    #[tactic(auto, using(crate::proofs::Steps::front_there, crate::proofs::Steps::front_none))]
+    /// What stands at the front of what came on the connection; Nothing where it isn't there. It never answers want of
+    /// memory.
+    pub fn front(&self, conn: Conn) -> Front<'_>
+        ensures { IsFrontAt (intakes_of self.now conn.0) result }
+    {
+        match self.get(conn) {
+            Some(intake) => intake.front(),
+            None => Front::Nothing,
+        }
+    }
+
+    #[tactic(auto, using(crate::proofs::Steps::whole, crate::proofs::Steps::not_whole, crate::proofs::Steps::nowhere))]
+    /// How many octets of the piece the whole message takes with which it begins, where the connection is there and
+    /// nothing is kept of it. It never answers want of memory.
+    pub fn whole_in(&self, conn: Conn, piece: &[u8]) -> Option<usize>
+        ensures whole { IfSome result (λ size. IsWholeAt (intakes_of self.now conn.0) piece.now size) }
+        ensures none { IfNone result (IfSome (intakes_of self.now conn.0) (λ i. IsNotWhole i piece.now)) }
+    {
+        match self.get(conn) {
+            Some(intake) => intake.whole_in(piece),
+            None => None,
+        }
+    }
+
+    /// The connection is there: as it was, or, if it wasn't, as a new one for messages of at most `max` octets.
+    pub fn open(&mut self, alloc: Global, conn: Conn, max: u32) -> Result<(), AllocError>
+        ensures opened { OnOk result (intakes_of self.new ≡ opened max conn.0 (intakes_of self.old)) }
+        ensures unchanged { OnErr result (intakes_of self.new ≡ intakes_of self.old) }
+        // Memory is wanted only for a connection that wasn't there.
+        ensures memory { OnErr result (is_there conn.0 (intakes_of self.old) ≡ false) }
+        ensures owners { owners_of self.new ≡ owners_of self.old }
+    {
+        if self.has(conn) {
+            return Ok(());
+        }
+        let slot = Slot {
+            intake: Intake::new(alloc, max),
+            owner: None,
+        };
+        match self.map.insert(conn.0, slot) {
+            Ok(_) => Ok(()),
+            Err(_) => Err(AllocError),
+        }
+    }
+
+    /// The connection is no more there. It never answers want of memory.
+    pub fn shut(&mut self, conn: Conn)
+        ensures shut { intakes_of self.new ≡ taken_down conn.0 (intakes_of self.old) }
+        ensures owners { owners_of self.new ≡ disowned_by (Some conn) (owners_of self.old) }
+    {
+        let _gone = self.map.swap_remove(&conn.0);
+    }
+
+    /// No connection is there. It never answers want of memory.
+    pub fn clear(&mut self)
+        ensures none { intakes_of self.new ≡ none_there }
+        ensures owners { owners_of self.new ≡ no_owner }
+    {
+        self.map.clear();
+    }
+
+    /// Keeps a piece that came on the connection, where it is there.
+    pub fn feed(&mut self, conn: Conn, piece: &[u8]) -> Result<(), AllocError>
+        ensures fed { OnOk result (intakes_of self.new ≡ changed conn.0 (fed_intake piece.now) (intakes_of self.old)) }
+        ensures unchanged { OnErr result (intakes_of self.new ≡ intakes_of self.old) }
+        // Nothing is kept of a connection that isn't there.
+        ensures memory { OnErr result (is_there conn.0 (intakes_of self.old) ≡ true) }
+        ensures owners { owners_of self.new ≡ owners_of self.old }
+    {
+        match self.map.get_mut(&conn.0) {
+            Some(slot) => slot.intake.feed(piece),
+            None => Ok(()),
+        }
+    }
+
+    /// Keeps of a piece that came on the connection what its first message wants, where the connection is there, and
+    /// answers how many octets were taken: all of them where that isn't whole with fewer.
+    pub fn feed_front(&mut self, conn: Conn, piece: &[u8]) -> Result<usize, AllocError>
+        ensures fed { IfOk result (λ size.
+            intakes_of self.new ≡ changed conn.0 (fed_intake (take size piece.now)) (intakes_of self.old)) }
+        ensures taken { IfOk result (TakesFrontAt (intakes_of self.old conn.0) piece.now) }
+        ensures unchanged { OnErr result (intakes_of self.new ≡ intakes_of self.old) }
+        // Nothing is kept of a connection that isn't there, nor behind a fault.
+        ensures memory { OnErr result ((i : OneIntake) × (intakes_of self.old conn.0 ≡ Some i)
+            × (i.is_broken ≡ false)) }
+        ensures owners { owners_of self.new ≡ owners_of self.old }
+    {
+        match self.map.get_mut(&conn.0) {
+            Some(slot) => slot.intake.feed_front(piece),
+            None => Ok(piece.len()),
+        }
+    }
+
+    /// Takes so many of the octets away again that came last on the connection, where it is there. It never answers
+    /// want of memory.
+    pub fn take_back(&mut self, conn: Conn, size: usize)
+        ensures back { intakes_of self.new ≡ changed conn.0 (unfed_intake size) (intakes_of self.old) }
+        ensures owners { owners_of self.new ≡ owners_of self.old }
+    {
+        if let Some(slot) = self.map.get_mut(&conn.0) {
+            slot.intake.take_back(size);
+        }
+    }
+
+    /// Lets the front message of the connection go. It never answers want of memory.
+    pub fn skip(&mut self, conn: Conn)
+        ensures skipped { (intake : OneIntake) (message rest : List ℕ) → intakes_of self.old conn.0 ≡ Some intake
+            → IsFirst intake message rest
+            → intakes_of self.new ≡ with_intake conn.0 (Some (record intake { octets = rest })) (intakes_of self.old) }
+        ensures owners { owners_of self.new ≡ owners_of self.old }
+    {
+        if let Some(slot) = self.map.get_mut(&conn.0) {
+            slot.intake.skip();
+        }
+    }
+
+    /// A fault of the connection was told. It never answers want of memory.
+    pub fn break_off(&mut self, alloc: Global, conn: Conn)
+        ensures broken { (intake : OneIntake) → intakes_of self.old conn.0 ≡ Some intake
+            → intakes_of self.new ≡ with_intake conn.0 (Some (broken_intake intake)) (intakes_of self.old) }
+        ensures owners { owners_of self.new ≡ owners_of self.old }
+    {
+        if let Some(slot) = self.map.get_mut(&conn.0) {
+            slot.intake.break_off(alloc);
+        }
+    }
+
+    /// Whether the connection is there and takes messages of at most `max` octets already. Where it stands is noted.
+    fn is_raised(&mut self, conn: Conn, max: u32) -> bool
+        ensures raised { result ≡ true → (i : OneIntake) × (intakes_of self.old conn.0 ≡ Some i) × (i.max ≡ max) }
+        ensures same { intakes_of self.new ≡ intakes_of self.old }
+        ensures owners { owners_of self.new ≡ owners_of self.old }
+    {
+        match self.map.get_index(self.last) {
+            Some((number, slot)) if *number == conn.0 => slot.intake.max() == max,
+            _ => match self.map.get_full(&conn.0) {
+                Some((index, _, slot)) => {
+                    let is_raised = slot.intake.max() == max;
+                    self.last = index;
+                    is_raised
+                }
+                None => false,
+            },
+        }
+    }
+
+    /// The connection, where it is there, takes messages of at most `max` octets.
+    fn set_max(&mut self, conn: Conn, max: u32)
+        ensures raised { intakes_of self.new ≡ raised_at max (Some conn) (intakes_of self.old) }
+        ensures owners { owners_of self.new ≡ owners_of self.old }
+    {
+        if let Some(slot) = self.map.get_mut(&conn.0) {
+            slot.intake.set_max(max);
+        }
+    }
+
+    /// The connection, if it is one and there, takes messages of at most `max` octets. It never answers want of memory.
+    pub fn raise(&mut self, conn: Option<Conn>, max: u32)
+        ensures raised { intakes_of self.new ≡ raised_at max conn (intakes_of self.old) }
+        ensures owners { owners_of self.new ≡ owners_of self.old }
+    {
+        if let Some(conn) = conn {
+            if !self.is_raised(conn, max) {
+                self.set_max(conn, max);
+            }
+        }
+    }
+
+    /// Where the peer is open, both connections that it may hold take messages of at most `max` octets. It never
+    /// answers want of memory.
+    pub fn raise_open(&mut self, is_open: bool, own: Option<Conn>, other: Option<Conn>, max: u32)
+        ensures raised { intakes_of self.new
+            ≡ cond is_open (raised_at max other (raised_at max own (intakes_of self.old))) (intakes_of self.old) }
+        ensures owners { owners_of self.new ≡ owners_of self.old }
+    {
+        if is_open {
+            self.raise(own, max);
+            self.raise(other, max);
+        }
+    }
+
+    #[tactic(auto, using(crate::proofs::Steps::left_close))]
+    /// What the action closes is no more there. It never answers want of memory.
+    fn leave_one(&mut self, action: &Action)
+        ensures left { intakes_of self.new ≡ left_by (action.now ∷ []) (intakes_of self.old) }
+        ensures owners { owners_of self.new ≡ closed_by (action.now ∷ []) (owners_of self.old) }
+    {
+        if let Action::Close(conn) = action {
+            self.shut(*conn);
+        }
+    }
+
+    /// What the actions close is no more there. It never answers want of memory.
+    pub fn leave(&mut self, actions: &[Action])
+        ensures left { intakes_of self.new ≡ left_by actions.now (intakes_of self.old) }
+        ensures owners { owners_of self.new ≡ closed_by actions.now (owners_of self.old) }
+    {
+        if let [action, rest @ ..] = actions {
+            self.leave_one(action);
+            self.leave(rest);
+        }
+    }
+}
