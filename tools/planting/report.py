@@ -22,6 +22,8 @@ class Report:
         self.standing = {}
         # (the crates that have no line of the record, or one of other texts)
         self.unrecorded = []
+        # (what is called with the crate of each edit that was refused)
+        self.heard = lambda crate: None
 
     def say(self, text):
         with self.lock:
@@ -30,6 +32,7 @@ class Report:
     def passes(self, what, subject, why, is_of_definition=False):
         self.passed.append(Row(what, subject, why, is_of_definition))
         self.say(f"{what}: refused: {why}")
+        self.heard(what.partition("/")[0])
 
     def fails(self, what, why):
         self.failed.append(what)
