@@ -1,4 +1,4 @@
-//! An order, told and answered.
+//! What a line asks, told and answered.
 ghost use Rattle.std.specs.Prelude.{◌≡◌, ◌++◌, ℕ, List, None, Some, true, false, IfOk, IfSome, IfNone, OnOk};
 ghost use Rattle.std.specs.Option.{option_or};
 ghost use Rattle.std.specs.String.{string_bytes};
@@ -11,7 +11,7 @@ ghost use Rattle.dm_live.specs.Meetings.{meeting_of};
 ghost use Rattle.dm_live.specs.OrderLines.{order_asked};
 
 use crate::answer_lines::{
-    put_event, put_event_refusal, put_neighbour, put_states_behind, put_turn, put_untold,
+    put_event, put_neighbour, put_order_refusal, put_states_behind, put_turn, put_untold,
 };
 use crate::asked::Asked;
 use crate::form::Form;
@@ -76,18 +76,18 @@ fn take_order(
         × (string_bytes text.new ≡ string_bytes text.old ++ own)) }
 {
     match node.order(alloc, order, answer) {
-        Ok(()) => put_asked(text, form, order, answer),
+        Ok(()) => put_taken(text, form, order, answer),
         Err(fault) => {
             let who = refused_by(order, fault);
             put_neighbour(text, form, who)?;
-            put_event_refusal(text, fault)?;
+            put_order_refusal(text, fault)?;
             Ok(who)
         }
     }
 }
 
 /// Appends what an order comes to that was taken, and answers whom it concerns.
-fn put_asked(
+fn put_taken(
     text: &mut String,
     form: Form,
     order: Order<'_>,
@@ -212,14 +212,14 @@ fn tell_next(
         × (string_bytes text.new ≡ string_bytes text.old)) }
 {
     match next_turn(alloc, form, node, conn, answer) {
-        Ok(()) => put_heard(text, form, conn, last, answer),
+        Ok(()) => put_turn_if_any(text, form, conn, last, answer),
         Err(error) => Err(error),
     }
 }
 
 /// Appends what a turn of the connection comes to, if there was one, and answers whether; `last` is whom it concerned,
 /// where it concerned anybody.
-fn put_heard(
+fn put_turn_if_any(
     text: &mut String,
     form: Form,
     conn: Conn,

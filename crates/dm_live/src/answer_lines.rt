@@ -18,7 +18,7 @@ ghost use Rattle.dm_live.specs.AnswerLines.{held_words, standing_words};
 
 use crate::asked::Asked;
 use crate::form::Form;
-use crate::line_ends::{end_with_number, end_with_octets};
+use crate::line_ends::{put_number_and_end, put_octets_and_end};
 use dm_machine::Conn;
 use dm_node::{Answer, Node, Order, OrderFault, Told};
 use dm_peer::{Action, Peer, PeerFault};
@@ -31,10 +31,10 @@ fn put_action(text: &mut String, action: &Action) -> Result<(), AllocError>
     ensures { OnOk result (string_bytes text.new ≡ string_bytes text.old ++ action_line action.now) }
 {
     match action {
-        Action::Connect(conn) => end_with_number(text, "connect ", conn.0),
+        Action::Connect(conn) => put_number_and_end(text, "connect ", conn.0),
         Action::Send(conn, octets) => put_message(text, *conn, octets.as_slice()),
-        Action::Close(conn) => end_with_number(text, "close ", conn.0),
-        Action::Up(octets) => end_with_octets(text, "up ", octets.as_slice()),
+        Action::Close(conn) => put_number_and_end(text, "close ", conn.0),
+        Action::Up(octets) => put_octets_and_end(text, "up ", octets.as_slice()),
     }
 }
 
@@ -45,7 +45,7 @@ fn put_message(text: &mut String, conn: Conn, message: &[u8]) -> Result<(), Allo
 {
     text.push_str("send ")?;
     put_decimal(text, conn.0)?;
-    end_with_octets(text, " ", message)
+    put_octets_and_end(text, " ", message)
 }
 
 /// Appends the lines of actions, in order.
@@ -67,14 +67,14 @@ fn put_arrival(text: &mut String, conn: Conn, told: Told) -> Result<(), AllocErr
         → OnOk result (string_bytes text.new ≡ string_bytes text.old ++ arrival_line None) }
 {
     match told {
-        Told::Message => end_with_number(text, "arrived ", conn.0),
+        Told::Message => put_number_and_end(text, "arrived ", conn.0),
         _ => Ok(()),
     }
 }
 
 /// Appends why an order was refused. Want of memory has no words, and is answered as such.
 #[tactic(auto, unfolding(crate::specs::AnswerLines::refusal_line))]
-fn put_refusal(text: &mut String, fault: PeerFault) -> Result<(), AllocError>
+fn put_peer_refusal(text: &mut String, fault: PeerFault) -> Result<(), AllocError>
     ensures words { OnOk result (string_bytes text.new ≡ string_bytes text.old ++ refusal_line fault) }
     ensures known { OnOk result (fault ≢ PeerFault.NoMemory) }
 {
@@ -87,7 +87,7 @@ fn put_refusal(text: &mut String, fault: PeerFault) -> Result<(), AllocError>
 }
 
 /// Appends that the line of this number has this fault.
-pub(crate) fn put_fault(text: &mut String, number: u64, name: &str) -> Result<(), AllocError>
+pub(crate) fn put_fault_answer(text: &mut String, number: u64, name: &str) -> Result<(), AllocError>
     ensures { OnOk result (string_bytes text.new ≡ string_bytes text.old ++ fault_answer number name.now) }
 {
     text.push_str("fault ")?;
@@ -130,7 +130,7 @@ pub(crate) fn put_neighbour(
     ensures { OnOk result (string_bytes text.new ≡ string_bytes text.old ++ neighbour_line form index) }
 {
     match (form, index) {
-        (Form::Several, Some(index)) => end_with_number(text, "neighbour ", index as u64),
+        (Form::Several, Some(index)) => put_number_and_end(text, "neighbour ", index as u64),
         (Form::Several, None) => Ok(()),
         (Form::Alone, _) => Ok(()),
     }
@@ -174,13 +174,13 @@ pub(crate) fn put_untold(text: &mut String, order: Order<'_>) -> Result<(), Allo
 
 /// Appends why an order was refused. Want of memory has no words, and is answered as such.
 #[tactic(auto, unfolding(crate::specs::Answers::event_refusal_line))]
-pub(crate) fn put_event_refusal(text: &mut String, fault: OrderFault) -> Result<(), AllocError>
+pub(crate) fn put_order_refusal(text: &mut String, fault: OrderFault) -> Result<(), AllocError>
     ensures words { OnOk result (string_bytes text.new ≡ string_bytes text.old ++ event_refusal_line fault) }
     ensures known { OnOk result (fault ≢ faults.Peer peer_faults.NoMemory) }
 {
     match fault {
         OrderFault::NoNeighbour => text.push_str("refused NoNeighbour\n"),
-        OrderFault::Peer(fault) => put_refusal(text, fault),
+        OrderFault::Peer(fault) => put_peer_refusal(text, fault),
     }
 }
 

@@ -7,10 +7,10 @@ ghost use Rattle.dm_live.specs.Drafts.{settings_of};
 ghost use Rattle.dm_live.specs.Served.{fault_answer};
 ghost use Rattle.dm_live.specs.Stages.{IsBegun};
 
-use crate::answer_lines::put_fault;
+use crate::answer_lines::put_fault_answer;
 use crate::draft::Draft;
 use crate::form::Form;
-use crate::peers::node_told;
+use crate::peers::node_with_peers;
 use dm_node::Node;
 use dm_peer::Config;
 use std::alloc::{AllocError, Global};
@@ -55,7 +55,7 @@ fn begin_nothing(number: u64, name: &str, text: &mut String) -> Result<Begun, Al
     ensures nothing { IfOk result (λ begun. begun ≡ Begun.Nothing) }
     ensures answer { OnOk result (string_bytes text.new ≡ string_bytes text.old ++ fault_answer number name.now) }
 {
-    put_fault(text, number, name)?;
+    put_fault_answer(text, number, name)?;
     Ok(Begun::Nothing)
 }
 
@@ -73,7 +73,7 @@ fn begin_node(
     ensures { IfOk result (λ begun. (answer : List ℕ) × IsBegun number (settings_of draft.now) begun answer
         × (string_bytes text.new ≡ string_bytes text.old ++ answer)) }
 {
-    let made = node_told(alloc, draft, &config);
+    let made = node_with_peers(alloc, draft, &config);
     drop(config);
     match made? {
         Ok(node) => text

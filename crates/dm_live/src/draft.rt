@@ -13,7 +13,7 @@ ghost use Rattle.dm_live.specs.Drafts.{settings_of};
 ghost use Rattle.dm_live.specs.Settings.{Settings, no_settings, Sets, specific_word};
 ghost use Rattle.dm_live.specs.Settings.{TellsOne, TellsSpecific, TellsSetting};
 
-use crate::setting_name::{SettingName, read_setting, read_specific};
+use crate::setting_name::{SettingName, read_setting_name, read_vendor_application};
 use crate::setting_words::{
     push_address, push_name, push_number, set_name, set_number, set_optional_number, set_text,
 };
@@ -79,7 +79,7 @@ impl Draft {
         self.first_max
     }
 
-    /// The longest message behind it.
+    /// The longest message behind the capabilities exchange.
     pub(crate) fn most(&self) -> u32
         ensures { result ≡ (settings_of self.now).most }
     {
@@ -98,14 +98,18 @@ impl Draft {
         let Some(word) = left.next() else {
             return Ok(false);
         };
-        match read_specific(word) {
-            Some(accounting) => self.take_specific(accounting, &mut left),
+        match read_vendor_application(word) {
+            Some(accounting) => self.take_vendor_application(accounting, &mut left),
             None => self.take_one(word, &mut left),
         }
     }
 
     /// Goes on with an application of a vendor, of accounting or not. False where no two numbers tell one.
-    fn take_specific(&mut self, accounting: bool, left: &mut Words<'_>) -> Result<bool, AllocError>
+    fn take_vendor_application(
+        &mut self,
+        accounting: bool,
+        left: &mut Words<'_>,
+    ) -> Result<bool, AllocError>
         ensures told { IfOk result (λ good. good ≡ true
             → TellsSpecific (specific_word accounting ∷ words left.old) (settings_of self.old) (settings_of self.new)) }
         ensures bad { IfOk result (λ good. good ≡ false → (t : Settings)
@@ -131,7 +135,7 @@ impl Draft {
             → (t : Settings) → TellsOne (word.now ∷ words left.old) (settings_of self.old) t → ⊥) }
         ensures kept { IfOk result (λ good. good ≡ false → settings_of self.new ≡ settings_of self.old) }
     {
-        let Some(name) = read_setting(word) else {
+        let Some(name) = read_setting_name(word) else {
             return Ok(false);
         };
         let Some(value) = word_alone(left) else {
@@ -174,7 +178,7 @@ impl Draft {
         self.peers.as_slice()
     }
 
-    /// The host of the first, an empty name where there is none.
+    /// The host of the first peer, an empty name where there is none.
     fn first_peer(&self) -> &[u8]
         ensures { result.now ≡ first_told (settings_of self.now).peers }
     {
@@ -226,13 +230,13 @@ impl Draft {
     {
         let peer = Vec::from_slice(alloc, self.first_peer())?;
         match Config::new(alloc, node, peer, self.first_id) {
-            Ok(config) => Ok(Ok(self.comparing_if_told(config))),
+            Ok(config) => Ok(Ok(self.comparing_if_set(config))),
             Err(fault) => Ok(Err(config_fault_name(fault)?)),
         }
     }
 
     /// The configuration, which compares the host that a CEA names where the lines say so.
-    fn comparing_if_told(&self, config: Config) -> Config
+    fn comparing_if_set(&self, config: Config) -> Config
         ensures node { result.node ≡ config.node }
         ensures peer { result.peer ≡ config.peer }
         ensures first_id { result.first_id ≡ config.first_id }

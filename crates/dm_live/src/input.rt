@@ -19,7 +19,7 @@ pub fn next_line<R: BufRead>(reader: &mut R, line: &mut Vec<u8>) -> Result<bool,
     line.clear();
     'piece: for _ in 0..u64::MAX {
         if take_piece(reader, line)? {
-            return Ok(end_line(line));
+            return Ok(strip_line_end(line));
         }
     }
     Err(LiveFault::Read)
@@ -33,7 +33,7 @@ fn take_piece<R: BufRead>(reader: &mut R, line: &mut Vec<u8>) -> Result<bool, Li
 {
     let octets = match reader.fill_buf() {
         Ok(octets) => octets,
-        Err(error) => return none_taken(error),
+        Err(error) => return none_read(error),
     };
     let (end, done) = piece_end(octets);
     line.extend_from_slice(&octets[..end])?;
@@ -42,7 +42,7 @@ fn take_piece<R: BufRead>(reader: &mut R, line: &mut Vec<u8>) -> Result<bool, Li
 }
 
 /// An interrupted read is made again.
-fn none_taken(error: Error) -> Result<bool, LiveFault>
+fn none_read(error: Error) -> Result<bool, LiveFault>
     ensures again { IfOk result (λ done. done ≡ false) }
     ensures fault { IfErr result (λ f. (f ≡ LiveFault.Read) ⊎ (f ≡ LiveFault.Memory)) }
 {
@@ -69,7 +69,7 @@ fn piece_end(octets: &[u8]) -> (usize, bool)
 }
 
 /// Takes the end of a line off. False where there is none, as nothing was left.
-fn end_line(line: &mut Vec<u8>) -> bool
+fn strip_line_end(line: &mut Vec<u8>) -> bool
     ensures none { result ≡ false → length line.old.items ≡ 0 }
     ensures some { result ≡ true → (0 < length line.old.items) }
     ensures line { result ≡ true → line.new.items ≡ without_end line.old.items }

@@ -8,7 +8,11 @@ use dm_text::{put_decimal, put_hexadecimal};
 use std::alloc::AllocError;
 
 /// Appends words, a number, and the end of the line.
-pub(crate) fn end_with_number(text: &mut String, words: &str, number: u64) -> Result<(), AllocError>
+pub(crate) fn put_number_and_end(
+    text: &mut String,
+    words: &str,
+    number: u64,
+) -> Result<(), AllocError>
     ensures { OnOk result (string_bytes text.new ≡ string_bytes text.old ++ words.now ++ decimal number ++ 10 ∷ []) }
 {
     text.push_str(words)?;
@@ -17,7 +21,7 @@ pub(crate) fn end_with_number(text: &mut String, words: &str, number: u64) -> Re
 }
 
 /// Appends words, octets in hexadecimal, and the end of the line.
-pub(crate) fn end_with_octets(
+pub(crate) fn put_octets_and_end(
     text: &mut String,
     words: &str,
     octets: &[u8],

@@ -9,12 +9,12 @@ ghost use Rattle.dm_live.specs.Settings.{no_settings};
 ghost use Rattle.dm_live.specs.Stages.{stage_of};
 
 use crate::answer::answer_order;
-use crate::answer_lines::put_fault;
+use crate::answer_lines::put_fault_answer;
 use crate::begun::{Begun, begin};
 use crate::draft::Draft;
 use crate::form::Form;
 use crate::order_line::read_order;
-use crate::sender_lines::{put_sender_at, read_sender};
+use crate::sender_lines::{put_sender_answer, read_sender_line};
 use dm_node::{Answer, Node};
 use dm_text::Words;
 use std::alloc::{AllocError, Global};
@@ -54,7 +54,7 @@ impl Live {
             × (string_bytes text.new ≡ string_bytes text.old ++ answer)) }
     {
         if let Begun::Running(form, node) = &mut self.begun {
-            return answer_told(alloc, *form, node, &mut self.answer, number, line, text);
+            return answer_running(alloc, *form, node, &mut self.answer, number, line, text);
         }
         if is_go(line) {
             let begun = begin(alloc, &self.draft, number, text)?;
@@ -64,7 +64,7 @@ impl Live {
         answer_setting(&mut self.draft, number, line, text)
     }
 
-    /// Goes on with this node. It takes no memory.
+    /// Goes on with what was begun. It takes no memory.
     fn set_begun(&mut self, begun: Begun)
         ensures draft { self.new.draft ≡ self.old.draft }
         ensures begun { self.new.begun ≡ begun }
@@ -100,12 +100,12 @@ fn answer_setting(
     if draft.take_line(line)? {
         Ok(())
     } else {
-        put_fault(text, number, "Syntax")
+        put_fault_answer(text, number, "Syntax")
     }
 }
 
 /// Answers whom a neighbour met, or tells the order of a line and answers it, or answers a bad line.
-fn answer_told(
+fn answer_running(
     alloc: Global,
     form: Form,
     node: &mut Node,
@@ -118,8 +118,8 @@ fn answer_told(
         × AnswersOrder number form line.now (meeting_of node.old) (meeting_of node.new) answer
         × (string_bytes text.new ≡ string_bytes text.old ++ answer)) }
 {
-    if let Some(index) = read_sender(form, line) {
-        put_sender_at(alloc, text, node.known(index))?;
+    if let Some(index) = read_sender_line(form, line) {
+        put_sender_answer(alloc, text, node.known(index))?;
         return text.push_str(".\n");
     }
     match read_order(alloc, form, line)? {
@@ -127,6 +127,6 @@ fn answer_told(
             answer_order(alloc, form, node, order.asked(), answer, text)?;
             text.push_str(".\n")
         }
-        None => put_fault(text, number, "Syntax"),
+        None => put_fault_answer(text, number, "Syntax"),
     }
 }

@@ -6,10 +6,10 @@ ghost use Rattle.dm_live.specs.OrderLines.{node_asked, told_order, TellsNamed, T
 
 use crate::asked::Asked;
 use crate::form::Form;
-use crate::order_name::{OrderName, read_name};
+use crate::order_name::{OrderName, read_order_name};
 use crate::order_words::{
-    conn_alone, conn_and_word, is_nothing, neighbour_alone, neighbour_and_cause,
-    neighbour_and_conn, neighbour_and_word,
+    conn_alone, conn_and_word, neighbour_and_cause, neighbour_and_conn, neighbour_and_nothing,
+    neighbour_and_word, none_left,
 };
 use dm_base::Cause;
 use dm_machine::Conn;
@@ -70,17 +70,17 @@ pub fn read_order(alloc: Global, form: Form, line: &[u8]) -> Result<Option<Order
     let Some(word) = left.next() else {
         return Ok(None);
     };
-    match read_name(word) {
+    match read_order_name(word) {
         Some(OrderName::Octets) => read_piece(alloc, form, &mut left),
-        Some(OrderName::Submit) => read_message(alloc, form, &mut left),
+        Some(OrderName::Submit) => read_submit(alloc, form, &mut left),
         Some(OrderName::Reset) => Ok(read_reset(form, &mut left)),
-        Some(name) => Ok(read_behind(form, name, &mut left)),
+        Some(name) => Ok(read_named(form, name, &mut left)),
         None => Ok(None),
     }
 }
 
 /// The order of this name and what stands behind that.
-fn read_behind(form: Form, name: OrderName, left: &mut Words<'_>) -> Option<OrderLine>
+fn read_named(form: Form, name: OrderName, left: &mut Words<'_>) -> Option<OrderLine>
     requires octets { name ≢ OrderName.Octets }
     requires submit { name ≢ OrderName.Submit }
     requires reset { name ≢ OrderName.Reset }
@@ -97,8 +97,8 @@ fn read_behind(form: Form, name: OrderName, left: &mut Words<'_>) -> Option<Orde
         OrderName::Nack => Some(OrderLine::Nack(conn_alone(left)?)),
         OrderName::Accept => Some(OrderLine::Accept(conn_alone(left)?)),
         OrderName::Gone => Some(OrderLine::Gone(conn_alone(left)?)),
-        OrderName::Timeout => Some(OrderLine::Timeout(neighbour_alone(form, left)?)),
-        OrderName::Tick => Some(OrderLine::Tick(neighbour_alone(form, left)?)),
+        OrderName::Timeout => Some(OrderLine::Timeout(neighbour_and_nothing(form, left)?)),
+        OrderName::Tick => Some(OrderLine::Tick(neighbour_and_nothing(form, left)?)),
         OrderName::Stop => {
             let (index, cause) = neighbour_and_cause(form, left)?;
             Some(OrderLine::Stop(index, cause))
@@ -114,14 +114,14 @@ fn read_reset(form: Form, left: &mut Words<'_>) -> Option<OrderLine>
         → TellsNamed form OrderName.Reset (node_asked o) (words left.old) → ⊥) }
 {
     match form {
-        Form::Alone if is_nothing(left) => Some(OrderLine::ResetAll),
+        Form::Alone if none_left(left) => Some(OrderLine::ResetAll),
         Form::Alone => None,
-        Form::Several => read_several_reset(left),
+        Form::Several => read_reset_of_several(left),
     }
 }
 
 /// The neighbour that begins anew, or each of them.
-fn read_several_reset(left: &mut Words<'_>) -> Option<OrderLine>
+fn read_reset_of_several(left: &mut Words<'_>) -> Option<OrderLine>
     ensures told { IfSome result (λ o.
         TellsNamed Form.Several OrderName.Reset (told_order o) (words left.old)) }
     ensures none { IfNone result ((o : OneAsked)
@@ -158,7 +158,7 @@ fn read_piece(
 }
 
 /// A message of the user to a neighbour, in hexadecimal.
-fn read_message(
+fn read_submit(
     alloc: Global,
     form: Form,
     left: &mut Words<'_>,

@@ -20,7 +20,7 @@ pub enum OrderName {
 }
 
 /// The order that is called by this word.
-pub(crate) fn read_name(word: &[u8]) -> Option<OrderName>
+pub(crate) fn read_order_name(word: &[u8]) -> Option<OrderName>
     ensures told { IfSome result (λ name. word.now ≡ name_word name) }
     ensures none { IfNone result ((name : OrderName) → word.now ≡ name_word name → ⊥) }
 {

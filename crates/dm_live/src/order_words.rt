@@ -62,12 +62,12 @@ fn next_neighbour(form: Form, left: &mut Words<'_>) -> Option<usize>
 }
 
 /// A neighbour alone.
-pub(crate) fn neighbour_alone(form: Form, left: &mut Words<'_>) -> Option<usize>
+pub(crate) fn neighbour_and_nothing(form: Form, left: &mut Words<'_>) -> Option<usize>
     ensures told { IfSome result (λ i. NamesNeighbour form i (words left.old) []) }
     ensures none { IfNone result ((n : ℕ) → NamesNeighbour form n (words left.old) [] → ⊥) }
 {
     let index = next_neighbour(form, left)?;
-    if is_nothing(left) { Some(index) } else { None }
+    if none_left(left) { Some(index) } else { None }
 }
 
 /// A neighbour, and a connection.
@@ -116,7 +116,7 @@ pub(crate) fn cause_alone(left: &mut Words<'_>) -> Option<Cause>
 }
 
 /// Whether no word is left.
-pub(crate) fn is_nothing(left: &mut Words<'_>) -> bool
+pub(crate) fn none_left(left: &mut Words<'_>) -> bool
     ensures told { result ≡ true → words left.old ≡ [] }
     ensures none { result ≡ false → words left.old ≡ [] → ⊥ }
 {

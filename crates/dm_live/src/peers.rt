@@ -70,7 +70,7 @@ fn add_peers(
 
 /// The node with the neighbours that the draft tells, or the name of why the first can't be had that
 /// can't.
-pub(crate) fn node_told(
+pub(crate) fn node_with_peers(
     alloc: Global,
     draft: &Draft,
     template: &Config,

@@ -13,61 +13,65 @@ ghost use Rattle.dm_live.specs.SenderLines.{name_lines, version_lines, ability_l
 ghost use Rattle.dm_live.specs.SenderLines.{exchange_lines, anew_line, sender_lines, sender_answer};
 
 use crate::form::Form;
-use crate::line_ends::{end_with_number, end_with_octets};
-use crate::order_words::neighbour_alone;
+use crate::line_ends::{put_number_and_end, put_octets_and_end};
+use crate::order_words::neighbour_and_nothing;
 use dm_base::SenderRef;
 use dm_slots::Acquaintance;
 use dm_text::Words;
 use std::alloc::{AllocError, Global};
 
 /// The number of the neighbour of which the line asks whom it met; None where it asks nothing such.
-pub(crate) fn read_sender(form: Form, line: &[u8]) -> Option<usize>
+pub(crate) fn read_sender_line(form: Form, line: &[u8]) -> Option<usize>
     ensures told { IfSome result (λ n. IsSender form n line.now) }
     ensures none { IfNone result ((n : ℕ) → IsSender form n line.now → ⊥) }
 {
     let mut left = Words::new(line);
     match left.next() {
-        Some(b"sender") => neighbour_alone(form, &mut left),
+        Some(b"sender") => neighbour_and_nothing(form, &mut left),
         _ => None,
     }
 }
 
 /// Appends a name and octets.
 #[tactic(auto, unfolding(crate::specs::SenderLines::octets_line))]
-fn put_octets(text: &mut String, name: &str, octets: &[u8]) -> Result<(), AllocError>
+fn put_octets_line(text: &mut String, name: &str, octets: &[u8]) -> Result<(), AllocError>
     ensures { OnOk result (string_bytes text.new ≡ string_bytes text.old ++ octets_line name.now octets.now) }
 {
     text.push_str(name)?;
-    end_with_octets(text, " ", octets)
+    put_octets_and_end(text, " ", octets)
 }
 
 /// Appends a name and a number.
 #[tactic(auto, unfolding(crate::specs::SenderLines::number_line))]
-fn put_number(text: &mut String, name: &str, number: u32) -> Result<(), AllocError>
+fn put_number_line(text: &mut String, name: &str, number: u32) -> Result<(), AllocError>
     ensures { OnOk result (string_bytes text.new ≡ string_bytes text.old ++ number_line name.now number) }
 {
     text.push_str(name)?;
-    end_with_number(text, " ", u64::from(number))
+    put_number_and_end(text, " ", u64::from(number))
 }
 
 /// Appends the name and the number, where there is one.
 #[tactic(auto, unfolding(crate::specs::SenderLines::number_line_if_any, crate::specs::SenderLines::number_lines))]
-fn put_if_any(text: &mut String, name: &str, number: Option<u32>) -> Result<(), AllocError>
+fn put_number_line_if_any(
+    text: &mut String,
+    name: &str,
+    number: Option<u32>,
+) -> Result<(), AllocError>
     ensures { OnOk result (string_bytes text.new ≡ string_bytes text.old ++ number_line_if_any name.now number) }
 {
     match number {
-        Some(number) => put_number(text, name, number),
+        Some(number) => put_number_line(text, name, number),
         None => Ok(()),
     }
 }
 
 /// Appends the name and each number.
 #[tactic(auto, unfolding(crate::specs::SenderLines::number_lines))]
-fn put_numbers(text: &mut String, name: &str, numbers: &[u32]) -> Result<(), AllocError>
+fn put_number_lines(text: &mut String, name: &str, numbers: &[u32]) -> Result<(), AllocError>
     ensures { OnOk result (string_bytes text.new ≡ string_bytes text.old ++ number_lines name.now numbers.now) }
 {
     for number in numbers {
-        put_number(text, name, *number)?;
+        put_number_line(text, name, *number)?;
     }
     Ok(())
 }
@@ -78,9 +82,9 @@ fn put_names(text: &mut String, sender: SenderRef<'_>) -> Result<(), AllocError>
     ensures { (l : List Avp) → HasAvps sender.entry l
         → OnOk result (string_bytes text.new ≡ string_bytes text.old ++ name_lines l) }
 {
-    put_octets(text, "host", sender.host())?;
-    put_octets(text, "realm", sender.realm())?;
-    put_octets(text, "product", sender.product())
+    put_octets_line(text, "host", sender.host())?;
+    put_octets_line(text, "realm", sender.realm())?;
+    put_octets_line(text, "product", sender.product())
 }
 
 /// Appends the applications that the sender says.
@@ -94,7 +98,7 @@ fn put_applications(
 {
     match sender.applications(alloc) {
         Ok(ids) => {
-            let done = put_numbers(text, "application", ids.as_slice());
+            let done = put_number_lines(text, "application", ids.as_slice());
             drop(ids);
             done
         }
@@ -109,7 +113,7 @@ fn put_vendors(alloc: Global, text: &mut String, sender: SenderRef<'_>) -> Resul
 {
     match sender.vendors(alloc) {
         Ok(ids) => {
-            let done = put_numbers(text, "supports", ids.as_slice());
+            let done = put_number_lines(text, "supports", ids.as_slice());
             drop(ids);
             done
         }
@@ -117,14 +121,14 @@ fn put_vendors(alloc: Global, text: &mut String, sender: SenderRef<'_>) -> Resul
     }
 }
 
-/// Appends what the sender says in numbers.
+/// Appends the vendor and the firmware that the sender says.
 #[tactic(auto, unfolding(crate::specs::SenderLines::version_lines))]
 fn put_version(text: &mut String, sender: SenderRef<'_>) -> Result<(), AllocError>
     ensures { (l : List Avp) → HasAvps sender.entry l
         → OnOk result (string_bytes text.new ≡ string_bytes text.old ++ version_lines l) }
 {
-    put_if_any(text, "vendor", sender.vendor())?;
-    put_if_any(text, "firmware", sender.firmware())
+    put_number_line_if_any(text, "vendor", sender.vendor())?;
+    put_number_line_if_any(text, "firmware", sender.firmware())
 }
 
 /// Appends what the sender can do, and its state.
@@ -135,7 +139,7 @@ fn put_ability(alloc: Global, text: &mut String, sender: SenderRef<'_>) -> Resul
 {
     put_applications(alloc, text, sender)?;
     put_vendors(alloc, text, sender)?;
-    put_if_any(text, "origin-state", sender.state_id())
+    put_number_line_if_any(text, "origin-state", sender.state_id())
 }
 
 /// Appends what is said of the sender, or that there is nobody.
@@ -165,18 +169,19 @@ fn put_anew(text: &mut String, is_anew: bool) -> Result<(), AllocError>
     Ok(())
 }
 
-/// Appends who the other side is, or that nobody was met, and its Origin-State-Id of the time before.
+/// Appends who the other side is, or that nobody was met, its Origin-State-Id of the time before, and whether it has
+/// begun anew.
 fn put_sender(alloc: Global, text: &mut String, known: &Acquaintance) -> Result<(), AllocError>
     ensures { OnOk result (string_bytes text.new ≡ string_bytes text.old ++ sender_lines known.now) }
 {
     put_exchange(alloc, text, known)?;
-    put_if_any(text, "origin-state-before", known.state_before())?;
+    put_number_line_if_any(text, "origin-state-before", known.state_before())?;
     put_anew(text, known.is_anew())
 }
 
 /// Appends who the other side of a neighbour is, or that there is none of the number.
 #[tactic(auto, unfolding(crate::specs::SenderLines::sender_answer))]
-pub(crate) fn put_sender_at(
+pub(crate) fn put_sender_answer(
     alloc: Global,
     text: &mut String,
     known: Option<&Acquaintance>,

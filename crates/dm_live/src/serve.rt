@@ -11,7 +11,8 @@ use dm_io::write_text;
 use std::alloc::Global;
 use std::io::{BufRead, Write};
 
-/// Configures a peer by the first lines, and answers each further one, up to the end of the input.
+/// Configures a node of one peer or of several by the first lines, and answers these and each further one, up to the
+/// end of the input.
 ///
 /// Each line is answered before the next one is read.
 pub fn serve_lines<R: BufRead, W: Write>(

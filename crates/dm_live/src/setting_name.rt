@@ -41,7 +41,7 @@ fn read_own(word: &[u8]) -> Option<SettingName>
     }
 }
 
-/// What a word tells of what the node says beyond that.
+/// What a word tells of what the node can do, and of its state.
 fn read_said(word: &[u8]) -> Option<SettingName>
     ensures told { IfSome result (λ name. word.now ≡ setting_word name) }
     ensures none { IfNone result (IsNoneOf word.now (Auth ∷ Acct ∷ Supports ∷ Firmware ∷ State ∷ [])) }
@@ -72,7 +72,7 @@ fn read_of_peers(word: &[u8]) -> Option<SettingName>
 }
 
 /// What is called by this word.
-pub(crate) fn read_setting(word: &[u8]) -> Option<SettingName>
+pub(crate) fn read_setting_name(word: &[u8]) -> Option<SettingName>
     ensures told { IfSome result (λ name. word.now ≡ setting_word name) }
     ensures none { IfNone result ((name : SettingName) → word.now ≡ setting_word name → ⊥) }
 {
@@ -80,7 +80,7 @@ pub(crate) fn read_setting(word: &[u8]) -> Option<SettingName>
 }
 
 /// Whether the word tells that an application of a vendor follows, and whether that is one of accounting.
-pub(crate) fn read_specific(word: &[u8]) -> Option<bool>
+pub(crate) fn read_vendor_application(word: &[u8]) -> Option<bool>
     ensures told { IfSome result (λ accounting. word.now ≡ specific_word accounting) }
     ensures none { IfNone result ((accounting : Bool) → word.now ≡ specific_word accounting → ⊥) }
 {

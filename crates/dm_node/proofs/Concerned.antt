@@ -1,5 +1,5 @@
 -- An event concerns one neighbour at most.
-use Rattle.std.proofs.Common.{◌≡◌, inl, inr, ℕ, true, false, Option, None, Some, IfSome, List, sym, ap, ◌∙◌, arith}
+use Rattle.std.proofs.Common.{◌≡◌, inl, inr, ℕ, true, false, Option, None, Some, IfSome, List, sym, ap, ◌∙◌}
 use Rattle.dm_base.specs.Before.{lower}
 use Rattle.dm_machine.specs.declared.connection.Conn.{Conn}
 use Rattle.dm_peer.specs.declared.peer.Peer.{Peer}
@@ -11,6 +11,7 @@ use Rattle.dm_node.specs.Policies.{Policy}
 use Rattle.dm_node.specs.Telling.{IsCallOf, IsPorter, IsFirstFor, IsAddressed, Concerns}
 use Rattle.dm_node.specs.declared.events.NodeEvent.{NodeEvent}
 use Rattle.dm_node.specs.declared.events.NodeEvent.TheVariants as event
+use Rattle.dm_node.proofs.Basics.{one_some, one_inside}
 
 -- a connection that is held by one is held
 not_free : (ps : List (Option Peer)) (c : Conn) (i : ℕ) → holds_at ps c i ≡ true →
@@ -20,21 +21,14 @@ not_free ps c i held free = let clash : true ≡ false = sym held ∙ free i in 
 same_host : (a b : Caller) → a ≡ b → lower a.1 ≡ lower b.1
 same_host a b e = ap (λ (x : Caller). lower x.1) e
 
-some_is : (o : Option Caller) (a b : Caller) → o ≡ Some a → o ≡ Some b → a ≡ b
-some_is None a b x y = absurd (cc)
-some_is (Some z) a b x y = cc
-
 -- octets on a connection concern one
 one_called : (ps : List (Option Peer)) (s : List ℕ) (i j : ℕ) → IsNeighbourhood ps → IsCallOf ps s i → IsCallOf ps s j →
     i ≡ j
 one_called ps s i j n a b =
-    let same = same_host b.0 a.0 (some_is (caller_of s) b.0 a.0 b.1 a.1) in
+    let same = same_host b.0 a.0 (one_inside (caller_of s) b.0 a.0 b.1 a.1) in
     n.unlike.one i j (lower a.0.1) a.2 (b.2 ∙ ap Some same)
 
-some_number : (j k : ℕ) → Some j ≡ Some k → j ≡ k
-some_number j k e = grind arith
-
-one_addressed : (policy : Policy) (ps : List (Option Peer)) (c : Conn) (s : List ℕ) (i j : ℕ) → IsNeighbourhood ps →
+pub one_addressed : (policy : Policy) (ps : List (Option Peer)) (c : Conn) (s : List ℕ) (i j : ℕ) → IsNeighbourhood ps →
     IsAddressed policy ps c s i → IsAddressed policy ps c s j → i ≡ j
 one_addressed policy ps c s i j n (inl a) (inl b) = n.apart.one i j c a b
 one_addressed policy ps c s i j n (inl a) (inr b) = absurd (not_free ps c i a b.0)
@@ -42,7 +36,7 @@ one_addressed policy ps c s i j n (inr a) (inl b) = absurd (not_free ps c j b a.
 one_addressed policy ps c s i j n (inr (free, inl a)) (inr (also, inl b)) = one_called ps s i j n a b
 one_addressed policy ps c s i j n (inr (free, inl a)) (inr (also, inr b)) = absurd (b.0 i a)
 one_addressed policy ps c s i j n (inr (free, inr a)) (inr (also, inl b)) = absurd (a.0 j b)
-one_addressed policy ps c s i j n (inr (free, inr a)) (inr (also, inr b)) = some_number i j (sym a.1.0 ∙ b.1.0)
+one_addressed policy ps c s i j n (inr (free, inr a)) (inr (also, inr b)) = one_some i j (sym a.1.0 ∙ b.1.0)
 
 pub one_is_concerned : OneIsConcerned
 one_is_concerned policy ps (event.Start m c) i j n a b = sym a ∙ b
@@ -65,10 +59,4 @@ for_nobody policy ps s uncalled none i (inr h) = none i h.1
 pub one_there : (policy : Policy) (ps : List (Option Peer)) (e : NodeEvent) (o : Option ℕ) (i k : ℕ) →
     IsNeighbourhood ps → o ≡ Some k → IfSome o (Concerns policy ps e) → Concerns policy ps e i → i ≡ k
 one_there policy ps e None i k n is a b = absurd (cc)
-one_there policy ps e (Some j) i k n is a b = one_is_concerned policy ps e i j n b a ∙ some_number j k is
-
--- where one was found it isn't nobody's
-pub of_nobody : (policy : Policy) (ps : List (Option Peer)) (e : NodeEvent) (o : Option ℕ) (k : ℕ) → o ≡ Some k →
-    IfSome o (Concerns policy ps e) → ((i : ℕ) → Concerns policy ps e i → ⊥) → ⊥
-of_nobody policy ps e None k is a none = absurd (cc)
-of_nobody policy ps e (Some j) k is a none = none j a
+one_there policy ps e (Some j) i k n is a b = one_is_concerned policy ps e i j n b a ∙ one_some j k is

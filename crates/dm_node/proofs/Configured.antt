@@ -1,5 +1,5 @@
 -- A policy makes one configuration for a host.
-use Rattle.std.proofs.Common.{◌≡◌, inl, inr, ℕ, true, false, is_some, Option, Some, IfSome, unwrap_or, List, sym, ap, ◌∙◌, subst, true≢false, arith}
+use Rattle.std.proofs.Common.{◌≡◌, inl, inr, ℕ, true, false, is_some, Option, IfSome, List, sym, ap, ◌∙◌, subst, true≢false, arith}
 use Rattle.std.proofs.Props.{props}
 use Rattle.dm_base.specs.Fit.{is_name}
 use Rattle.dm_machine.specs.declared.connection.Conn.{Conn}
@@ -11,6 +11,7 @@ use Rattle.dm_peer.specs.declared.config.Config.{Config}
 use Rattle.dm_peer.specs.declared.peer.Peer.{Peer}
 use mathlib.Core.HLevel.{is_prop→PathP}
 use mathlib.Core.Path.{contract'}
+use Rattle.dm_node.proofs.Basics.{one_some, one_inside}
 
 -- configurations of the same parts are the same: each has the base dictionary
 same_config : (k l : Config) → k.node ≡ l.node → k.peer ≡ l.peer → k.first_id ≡ l.first_id →
@@ -29,9 +30,6 @@ same_config k l node peer first_id compares =
       based = (based i).1;
     }
 
-one_some : (x y : Config) → Some x ≡ Some y → x ≡ y
-one_some x y e = cc
-
 -- one that is made for a host is that of the host's template
 one_made : (policy : Policy) (k l : Config) → k.peer ≡ l.peer → MakesFor policy k.peer k → MakesFor policy l.peer l →
     k ≡ l
@@ -42,9 +40,6 @@ one_made policy k l same makes also =
     (makes.made.first_id ∙ ap (λ (t : Config). t.first_id) template ∙ sym also.made.first_id)
     (makes.made.compares ∙ ap (λ (t : Config). t.compares) template ∙ sym also.made.compares)
 
-one_caller : (o : Option Caller) (a b : Caller) → o ≡ Some a → o ≡ Some b → a ≡ b
-one_caller o a b x y = ap (λ v. unwrap_or v a) (sym x ∙ y)
-
 -- the host that calls is permitted in one way
 pub one_permitted : (policy : Policy) (ps : List (Option Peer)) (c : Conn) (octets : List ℕ) (k l : Config) →
     IsPermitted policy ps c octets k → IsPermitted policy ps c octets l → k ≡ l
@@ -52,7 +47,7 @@ one_permitted policy ps c octets k l h g =
     one_made policy k l
     (sym h.unknown.named
     ∙ ap (λ (x : Caller). x.1)
-    (one_caller (caller_of octets) h.unknown.call g.unknown.call h.unknown.calls g.unknown.calls)
+    (one_inside (caller_of octets) h.unknown.call g.unknown.call h.unknown.calls g.unknown.calls)
     ∙ g.unknown.named) h.made g.made
 
 -- and isn't forbidden

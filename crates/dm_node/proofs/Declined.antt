@@ -1,5 +1,5 @@
 -- What the rules of the neighbour that is concerned say of it.
-use Rattle.std.proofs.Common.{◌≡◌, ◌⊎◌, inl, inr, ℕ, Option, Some, List, Result, Ok, Err, sym, subst, ◌∙◌}
+use Rattle.std.proofs.Common.{◌≡◌, ◌⊎◌, inl, inr, ℕ, Option, Some, List, sym, subst, ◌∙◌}
 use Rattle.dm_peer.specs.declared.fault.PeerFault.{PeerFault}
 use Rattle.dm_peer.specs.declared.fault.PeerFault.TheVariants.{NoMemory}
 use Rattle.dm_peer.specs.declared.peer.Peer.{Peer}
@@ -7,9 +7,7 @@ use Rattle.dm_peer.specs.Events.{PeerEvent}
 use Rattle.dm_peer.specs.Refusing.{refusal_of}
 use Rattle.dm_node.specs.Declining.{IsRuledOut}
 use Rattle.dm_node.specs.Holding.{peer_at}
-
-same_peer : (x y : Peer) → Some x ≡ Some y → x ≡ y
-same_peer x y e = cc
+use Rattle.dm_node.proofs.Basics.{one_some}
 
 -- the peer of this number is x
 module _ (ps : List (Option Peer)) (i : ℕ) (x : Peer) (at : peer_at ps i ≡ Some x) (e : PeerEvent) where
@@ -20,12 +18,7 @@ module _ (ps : List (Option Peer)) (i : ℕ) (x : Peer) (at : peer_at ps i ≡ S
 
   pub rule_of : (f : PeerFault) → IsRuledOut ps i e f → refusal_of x.standing.core.state e ≡ Some f
   rule_of f out =
-      subst (λ (p : Peer). refusal_of p.standing.core.state e ≡ Some f) (same_peer out.peer x (sym out.at ∙ at))
+      subst (λ (p : Peer). refusal_of p.standing.core.state e ≡ Some f) (one_some out.peer x (sym out.at ∙ at))
       out.rule
 
 -- what was done wasn't refused, and one fault is refused with
-pub not_done : {A P : Type 0} (a : A) (f : PeerFault) (r : Result A PeerFault) → r ≡ Ok a → r ≡ Err f → P
-not_done a f r is refused = let clash : Ok a ≡ Err f = sym is ∙ refused in absurd (cc)
-
-pub same_fault : {A : Type 0} (g f : PeerFault) (r : Result A PeerFault) → r ≡ Err g → r ≡ Err f → g ≡ f
-same_fault {A} g f r is refused = let same : ◌≡◌ {A = Result A PeerFault} (Err g) (Err f) = sym is ∙ refused in cc

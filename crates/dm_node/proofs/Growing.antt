@@ -1,5 +1,5 @@
 -- A neighbour that holds nothing, with a host of its own, is put behind the others.
-use Rattle.std.proofs.Common.{◌≡◌, ℕ, Bool, true, false, List, Option, [], ◌∷◌, ◌++◌, Some, sym, ap, subst, ◌∙◌, inl, inr}
+use Rattle.std.proofs.Common.{◌≡◌, ℕ, true, false, List, Option, [], ◌∷◌, ◌++◌, Some, sym, ap, subst, ◌∙◌, inl, inr}
 use Rattle.dm_base.specs.Before.{lower}
 use Rattle.dm_machine.specs.declared.connection.Conn.{Conn}
 use Rattle.dm_peer.specs.declared.config.Config.{Config}
@@ -9,14 +9,11 @@ use Rattle.dm_history.specs.History.{new_peer}
 use Rattle.dm_peer.specs.After.{fresh_standing}
 use Rattle.dm_machine.specs.Connection.{hold_of}
 use Rattle.dm_node.specs.Holding.{is_held, holds, holds_it, holds_at, host_of, host_at, AreApart, AreUnlike}
+use Rattle.dm_node.proofs.Basics.{two_truths}
 use Rattle.dm_node.proofs.Places.{grown}
 
 pub fresh_holds : (y : Peer) (n : ℕ) (c : Conn) → y.standing ≡ fresh_standing n → holds c y ≡ false
 fresh_holds y n c is = ap (λ (s : Standing). is_held (hold_of s.core c)) is
-
-two_truths : (b : Bool) → b ≡ true → b ≡ false → ⊥
-two_truths true p q = cc
-two_truths false p q = cc
 
 pub still : (ps : List (Option Peer)) (y : Peer) (n : ℕ) (c : Conn) (j : ℕ) → y.standing ≡ fresh_standing n →
     holds_at (ps ++ Some y ∷ []) c j ≡ true →
@@ -26,11 +23,6 @@ still ps y n c j is h =
       | inl same ↦ subst (λ o. holds_it c o ≡ true) same h
       | inr last ↦ absurd (two_truths (holds c y) (subst (λ o. holds_it c o ≡ true) last.1 h) (fresh_holds y n c is))
     ]
-
-pub apart_grown : (ps : List (Option Peer)) (y : Peer) (n : ℕ) → y.standing ≡ fresh_standing n → AreApart ps →
-    AreApart (ps ++ Some y ∷ [])
-apart_grown ps y n is apart =
-    record { one = λ i j c h g. apart.one i j c (still ps y n c i is h) (still ps y n c j is g) }
 
 pub unlike_grown : (ps : List (Option Peer)) (y : Peer) (host : List ℕ) → y.config.peer ≡ host →
     ((j : ℕ) → host_at ps j ≡ Some (lower host) → ⊥) → AreUnlike ps → AreUnlike (ps ++ Some y ∷ [])

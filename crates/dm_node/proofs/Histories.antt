@@ -13,15 +13,10 @@ use Rattle.dm_node.specs.Emptying.{set_back, without_peer, with_set_back}
 use Rattle.dm_node.specs.Holding.{peer_at}
 use Rattle.dm_node.specs.NodeHistory.{NodeStep, NodeBecame, nobody_yet, added, told, refused_event, unmoved, removed, back, all_back, own_past, HasOwnHistory, EachNeighbourHasItsHistory}
 use Rattle.dm_node.specs.Telling.{PeerIsTold}
+use Rattle.dm_node.proofs.Basics.{one_some, no_some}
 use Rattle.dm_node.proofs.Places.{grown, nobody_behind, set_here, set_else, set_at}
 use Rattle.dm_node.proofs.Rostered.{each_back}
 use Rattle.dm_node.proofs.Taking.{config_kept}
-
-same_peer : (p q : Peer) → Some p ≡ Some q → p ≡ q
-same_peer p q e = cc
-
-no_peer : {P : Type 0} (p : Peer) → None ≡ Some p → P
-no_peer p e = absurd (cc)
 
 same_number : (a b : ℕ) → nat_eq a b ≡ true → a ≡ b
 same_number a b h = grind arith
@@ -38,8 +33,8 @@ added_here : (ps : List (Option Peer)) (c : Config) (i : ℕ) (p : Peer) → i �
     peer_at (with_new ps c) i ≡ Some p → HasOwnHistory [] p
 added_here ps c i p here at =
     elim (grown ps (Some (new_peer c c.first_id)) i) [
-      | inl same ↦ no_peer p (sym (nobody_behind ps) ∙ ap (peer_at ps) (sym here) ∙ sym same ∙ at)
-      | inr last ↦ new_has_none p c c.first_id (same_peer p (new_peer c c.first_id) (sym at ∙ last.1))
+      | inl same ↦ no_some p (sym (nobody_behind ps) ∙ ap (peer_at ps) (sym here) ∙ sym same ∙ at)
+      | inr last ↦ new_has_none p c c.first_id (one_some p (new_peer c c.first_id) (sym at ∙ last.1))
     ]
 
 added_else : (ps : List (Option Peer)) (c : Config) (i : ℕ) (p : Peer) → (i ≡ length ps → ⊥) →
@@ -63,16 +58,16 @@ set_back_here : (ps : List (Option Peer)) (i : ℕ) (p : Peer) (o : Option Peer)
     peer_at (set ps i (option_map set_back o)) i ≡ Some p → HasOwnHistory [] p
 set_back_here ps i p None was at =
     elim (set_at ps i None) [
-      | inl is ↦ no_peer p (sym is ∙ at)
-      | inr is ↦ no_peer p (sym was ∙ sym is ∙ at)
+      | inl is ↦ no_some p (sym is ∙ at)
+      | inr is ↦ no_some p (sym was ∙ sym is ∙ at)
     ]
 set_back_here ps i p (Some q) was at =
     new_has_none p q.config q.standing.next
-    (same_peer p (set_back q) (sym at ∙ set_here ps i (Some (set_back q)) (subst IsSome (sym was) refl)))
+    (one_some p (set_back q) (sym at ∙ set_here ps i (Some (set_back q)) (subst IsSome (sym was) refl)))
 
 all_back_here : (p : Peer) (o : Option Peer) → option_map set_back o ≡ Some p → HasOwnHistory [] p
-all_back_here p None at = no_peer p at
-all_back_here p (Some q) at = new_has_none p q.config q.standing.next (same_peer p (set_back q) (sym at))
+all_back_here p None at = no_some p at
+all_back_here p (Some q) at = new_has_none p q.config q.standing.next (one_some p (set_back q) (sym at))
 
 -- each of these neighbours has its own history
 abbrev Each : List NodeStep → List (Option Peer) → Type 0
@@ -89,7 +84,7 @@ module _ (past : List NodeStep) (ps : List (Option Peer)) (each : Each past ps) 
       HasOwnHistory (if b then done_at e actions ∷ own_past i past else own_past i past) p
   told_history step qs j e actions i p true q tells at =
       let here : i ≡ j = same_number i j q in
-      let is : tells.after ≡ p = same_peer tells.after p (sym tells.is ∙ ap (peer_at qs) (sym here) ∙ at) in
+      let is : tells.after ≡ p = one_some tells.after p (sym tells.is ∙ ap (peer_at qs) (sym here) ∙ at) in
       subst (HasOwnHistory (done_at e actions ∷ own_past i past)) is
       (one_more step tells.before tells.after e actions (own_past i past)
       (each i tells.before (ap (peer_at ps) here ∙ tells.was)) tells.acts)
@@ -109,7 +104,7 @@ module _ (past : List NodeStep) (ps : List (Option Peer)) (each : Each past ps) 
       let here : i ≡ j = same_number i j q in
       let there : peer_at (without_peer ps j) j ≡ Some p = ap (peer_at (without_peer ps j)) (sym here) ∙ at in
       elim (set_at ps j None) [
-        | inl gone ↦ no_peer p (sym gone ∙ there)
+        | inl gone ↦ no_some p (sym gone ∙ there)
         | inr still ↦ each i p (ap (peer_at ps) here ∙ sym still ∙ there)
       ]
   removed_history j i p false q at = each i p (sym (set_else ps j i None (other_number i j q)) ∙ at)
@@ -122,7 +117,7 @@ module _ (past : List NodeStep) (ps : List (Option Peer)) (each : Each past ps) 
 
 module _ (step : EachEventIsOneStep) where
   history : (past : List NodeStep) (ps : List (Option Peer)) → NodeBecame past ps → Each past ps
-  history past ps nobody_yet i p at = no_peer p at
+  history past ps nobody_yet i p at = no_some p at
   history past ps (added old before c was) i p at = added_history old before (history old before was) c i p _ refl at
   history past ps (told old before after j e actions was tells) i p at =
       told_history old before (history old before was) step after j e actions i p _ refl tells at

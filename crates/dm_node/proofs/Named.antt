@@ -7,7 +7,7 @@ use Rattle.dm_peer.specs.declared.peer.Peer.{Peer}
 use Rattle.dm_node.specs.declared.hosts.Hosts.{Hosts}
 use Rattle.dm_node.specs.Holding.{peer_at, host_of, host_at, AreUnlike}
 use Rattle.dm_node.specs.Naming.{noted_number, AreHostsNoted}
-use Rattle.dm_node.proofs.Taking.{two_truths}
+use Rattle.dm_node.proofs.Basics.{no_some, two_truths}
 
 and_right : (a b : Bool) → (a && b) ≡ true → b ≡ true
 and_right true b e = e
@@ -27,23 +27,14 @@ same_length (x ∷ xs) = ap suc (same_length xs)
 pub some_host : (h g : List ℕ) → Some h ≡ Some g → h ≡ g
 some_host h g e = cc
 
-pub some_number : {a b : ℕ} → Some a ≡ Some b → a ≡ b
-some_number {a} {b} e = grind arith
-
-pub no_number : {P : Type 0} {a : ℕ} → None ≡ Some a → P
-no_number e = absurd (cc)
-
-pub no_host : {P : Type 0} {h : List ℕ} → None ≡ Some h → P
-no_host e = absurd (cc)
-
 -- who has a host is there, and the host isn't too long
 pub there_of : (h : List ℕ) (o : Option Peer) → host_of o ≡ Some h → IsSome o
-there_of h None e = no_host e
+there_of h None e = no_some _ e
 there_of h (Some p) e = refl
 
 short_of : (host : List ℕ) (o : Option Peer) → host_of o ≡ Some (lower host) →
     nat_le (length host) max_name_len ≡ true
-short_of host None e = no_host e
+short_of host None e = no_some _ e
 short_of host (Some p) e =
     subst (λ n. nat_le n max_name_len ≡ true)
     (sym (same_length p.config.peer) ∙ ap length (some_host (lower p.config.peer) (lower host) e) ∙ same_length host)
@@ -53,11 +44,11 @@ module _ (o : Hosts) (ps : List (Option Peer)) (host : List ℕ) (named : AreHos
   found_is : (b : Bool) (i : ℕ) → Some i ≡ (if b then noted_number o (lower host) else None) →
       host_at ps i ≡ Some (lower host)
   found_is true i is = named.has (lower host) i (sym is)
-  found_is false i is = no_number (sym is)
+  found_is false i is = no_some _ (sym is)
 
   none_is : (b : Bool) (j : ℕ) → nat_le (length host) max_name_len ≡ b →
       None ≡ (if b then noted_number o (lower host) else None) → host_at ps j ≡ Some (lower host) → ⊥
-  none_is true j q is e = no_number (is ∙ named.noted (lower host) j e)
+  none_is true j q is e = no_some _ (is ∙ named.noted (lower host) j e)
   none_is false j q is e = two_truths (nat_le (length host) max_name_len) (short_of host (peer_at ps j) e) q
 
   pub there_named : (r : Option ℕ) →

@@ -1,5 +1,5 @@
--- A host that is no neighbour becomes one at its CER: what is held behind it, what is closed, and who is kept.
-use Rattle.std.proofs.Common.{◌≡◌, inl, inr, ◌⊎◌, ℕ, Bool, true, false, not, ◌&&◌, ◌==◌, nat_eq, IsTrue, Option, None, Some, IfSome, List, [], ◌∷◌, ◌++◌, length, refl, sym, ap, ◌∙◌, subst}
+-- A host that is no neighbour becomes one at its CER: what is held behind it, and what is closed.
+use Rattle.std.proofs.Common.{◌≡◌, inl, inr, ◌⊎◌, ℕ, Bool, true, false, not, ◌&&◌, ◌==◌, nat_eq, IsTrue, Option, None, Some, List, [], ◌∷◌, ◌++◌, length, refl, sym, ap, ◌∙◌, subst}
 use Rattle.std.proofs.lemmas.Bool.{eqb-true}
 use Rattle.dm_base.specs.declared.node.Node.{Node}
 use Rattle.dm_history.specs.History.{new_peer}
@@ -21,16 +21,16 @@ use Rattle.dm_peer.specs.Acts.{Moved, acts, input_of}
 use Rattle.dm_peer.specs.Configs.{wins}
 use Rattle.dm_peer.specs.Events.{Arrived}
 use Rattle.dm_peer.specs.Holding.{is_held, holds, OthersStayUnheld, ClosedIsUnheld}
-use Rattle.dm_peer.specs.Kept.{IsKept}
 use Rattle.dm_peer.specs.Said.{Heard}
 use Rattle.dm_peer.specs.Settled.{FreshIsSettled, EachEventKeepsSettled}
 use Rattle.dm_peer.specs.Steps.{EachEventIsOneStep, Follows, IsStep}
 use Rattle.dm_slots.specs.Intakes.{Intakes, is_there, actions_close}
 use Rattle.dm_slots.specs.Naming.{NamesThere}
 use Rattle.dm_node.specs.NodeHeld.{AllHeldAreThere, AreKept}
+use Rattle.dm_node.proofs.Basics.{one_some, two_truths}
 use Rattle.dm_node.proofs.Closing.{ClosesItsOwn, closes_shaped}
-use Rattle.dm_node.proofs.NodeEmptying.{grown}
-use Rattle.dm_node.proofs.NodeMoving.{two_truths, unlike, free_of, held_told, kept_told, came_there, octets_alone, closed_told, closed_answer}
+use Rattle.dm_node.proofs.NodeMoving.{unlike, free_of, held_told, came_there, octets_alone, closed_told, closed_answer}
+use Rattle.dm_node.proofs.Places.{grown}
 
 -- what octets do to a peer: it takes no other connection
 not_named : (d : Conn) (s : List ℕ) (h : Option Heard) (c : Conn) → (d.0 == c.0) ≡ false →
@@ -121,9 +121,6 @@ pub last_at : (ps : List (Option Peer)) (y : Option Peer) → peer_at (ps ++ y �
 last_at [] y = refl
 last_at (x ∷ xs) y = last_at xs y
 
-one_some : (p q : Peer) → Some p ≡ Some q → p ≡ q
-one_some p q e = cc
-
 -- a new peer was told the octets
 pub joined : (ps qs : List (Option Peer)) (i : ℕ) (c : Conn) (octets : List ℕ) (actions : List Action) (k : Config)
     (h : Joins ps qs i c octets actions k) →
@@ -155,14 +152,6 @@ held_joined laws ps qs i c octets actions k f h there named j d held = by (nat_e
     by false other =
         there j d
         (sym (ap (holds_it d) (else_at ps qs i j c octets actions k h (unlike j i other))) ∙ held)
-
-pub kept_joined : (ps qs : List (Option Peer)) (i : ℕ) (c : Conn) (octets : List ℕ) (actions : List Action)
-    (k : Config) → Joins ps qs i c octets actions k → AreKept ps → IfSome (peer_at qs i) IsKept → AreKept qs
-kept_joined ps qs i c octets actions k h kept looked j p at = by (nat_eq j i) refl
-  where
-    by : (b : Bool) → nat_eq j i ≡ b → IsKept p
-    by true same = subst (λ o. IfSome o IsKept) (ap (peer_at qs) (sym (eqb-true j i same)) ∙ at) looked
-    by false other = kept j p (sym (else_at ps qs i j c octets actions k h (unlike j i other)) ∙ at)
 
 -- nobody holds a connection on which an unknown host calls
 pub stranger_free : (policy : Policy) (ps : List (Option Peer)) (c : Conn) (octets : List ℕ) →
@@ -213,17 +202,6 @@ held_octets others laws policy c octets n ps qs (Some i) actions kept (inr (k, p
     held_joined laws ps qs i c octets actions k f joins there named
 held_octets others laws policy c octets n ps qs None actions kept m f there named =
     subst (λ l. AllHeldAreThere l f) (sym (peers_stay policy c octets n ps qs actions m.1)) there
-
--- each neighbour is kept behind them
-pub kept_octets : (policy : Policy) (c : Conn) (octets : List ℕ) (n : Node) (ps qs : List (Option Peer))
-    (who : Option ℕ) (actions : List Action) → AreKept ps → NodeMoves policy c octets n ps who actions qs →
-    IfSome who (λ i. IfSome (peer_at qs i) IsKept) → AreKept qs
-kept_octets policy c octets n ps qs (Some i) actions kept (inl m) looked =
-    kept_told ps qs i (Arrived c octets) actions kept m.1 looked
-kept_octets policy c octets n ps qs (Some i) actions kept (inr (k, permitted, joins)) looked =
-    kept_joined ps qs i c octets actions k joins kept looked
-kept_octets policy c octets n ps qs None actions kept m looked =
-    subst AreKept (sym (peers_stay policy c octets n ps qs actions m.1)) kept
 
 -- what is closed nobody holds behind them
 closed_nobody : PeerLaws → (policy : Policy) (c : Conn) (octets : List ℕ) (n : Node) (ps qs : List (Option Peer))

@@ -1,7 +1,7 @@
 -- Whom neighbours met, place by place.
 use Rattle.std.proofs.Common.{◌≡◌, ◌<◌, inl, inr, ℕ, zero, suc, Bool, true, false, cond, not, ◌&&◌, ◌==◌, nat_eq, true≢false}
 use Rattle.std.proofs.Common.{Result, Ok, Err, OnOk, OnErr, Bor}
-use Rattle.std.proofs.Common.{Option, None, Some, IsSome, is_some, List, [], ◌∷◌, ◌++◌, length, map, option_map}
+use Rattle.std.proofs.Common.{Option, None, Some, IsSome, IfSome, IfNone, is_some, List, [], ◌∷◌, ◌++◌, length, map, option_map}
 use Rattle.std.proofs.Common.{refl, sym, ap, ◌∙◌, subst, arith}
 use Rattle.std.specs.Prelude.{nat_lt, slice_get}
 use Rattle.std.proofs.Math.ListN.{set}
@@ -36,9 +36,12 @@ use Rattle.dm_slots.specs.Acquaintances.{known_by, known_after, known_at, known_
 use Rattle.dm_node.specs.NodeKnown.{AreKnown, acquaintance_at, with_nobody, with_known, given_place, peer_state, MeetsAny, IsCopied}
 use Rattle.dm_node.specs.NodeKnown.{KnownAfterOrder}
 use Rattle.dm_node.specs.NodeOrders.{ShutsUnheld}
-use Rattle.dm_node.specs.NodeStates.{NodeState, NodeAnswer}
+use Rattle.dm_node.specs.Neighbourhoods.{IsNeighbourhood}
+use Rattle.dm_node.specs.NodeStates.{NodeState, NodeAnswer, concerned_in}
+use Rattle.dm_node.proofs.Concerned.{one_is_concerned}
 use Rattle.dm_node.proofs.Newcomers.{peers_stay}
 use Rattle.dm_node.proofs.NodeMoving.{unlike}
+use Rattle.dm_node.proofs.Places.{nobody_behind}
 
 -- Places that are taken.
 
@@ -157,14 +160,22 @@ known_all_back ps qs ks known is = known ∙ sym (same_each set_back ps) ∙ sym
 -- What a neighbour was told.
 
 -- a host that is taken in was nobody before
-nobody_behind : (ps : List (Option Peer)) → peer_at ps (length ps) ≡ None
-nobody_behind [] = refl
-nobody_behind (x ∷ xs) = nobody_behind xs
-
 -- the state that was looked at is that of whom an event concerns, and Closed where it concerns nobody
 pub record IsStateOf (concerns : ℕ → Type 0) (ps : List (Option Peer)) (state : State) : Type 0 where
   pub told : (i : ℕ) → concerns i → state ≡ peer_state (peer_at ps i)
   pub nobody : ((i : ℕ) → concerns i → ⊥) → state ≡ Closed
+
+pub state_looked : (policy : Policy) (ps : List (Option Peer)) (e : NodeEvent) (who : Option ℕ) (state : State) →
+    IsNeighbourhood ps → IfSome who (Concerns policy ps e) → IfNone who ((i : ℕ) → Concerns policy ps e i → ⊥) →
+    state ≡ peer_state (concerned_in ps who) → IsStateOf (Concerns policy ps e) ps state
+state_looked policy ps e None state apart concerned nobody is = record {
+  told = λ i one. absurd (nobody i one);
+  nobody = λ none. is;
+}
+state_looked policy ps e (Some k) state apart concerned nobody is = record {
+  told = λ i one. is ∙ ap (λ j. peer_state (peer_at ps j)) (one_is_concerned policy ps e k i apart concerned one);
+  nobody = λ none. absurd (none k concerned);
+}
 
 -- it is the one in which a neighbour was told octets
 state_moved : (policy : Policy) (c : Conn) (octets : List ℕ) (n : Node) (ps qs : List (Option Peer)) (i : ℕ)

@@ -1,5 +1,5 @@
 -- One neighbour is told an event: what is held behind it, what it closes, and who is kept.
-use Rattle.std.proofs.Common.{◌≡◌, inl, inr, ℕ, Bool, true, false, nat_eq, ◌||◌, true≢false, Option, None, Some, IfSome, List, refl, sym, ap, ◌∙◌, subst}
+use Rattle.std.proofs.Common.{◌≡◌, inl, inr, ℕ, Bool, true, false, nat_eq, ◌||◌, true≢false, Option, None, Some, List, refl, sym, ap, ◌∙◌, subst}
 use Rattle.std.proofs.lemmas.Bool.{eqb-true, eq-eqb}
 use Rattle.dm_base.specs.declared.node.Node.{Node}
 use Rattle.dm_machine.specs.declared.connection.Conn.{Conn}
@@ -15,10 +15,8 @@ use Rattle.dm_peer.specs.Kept.{IsKept}
 use Rattle.dm_slots.specs.Intakes.{Intakes, is_there, actions_close}
 use Rattle.dm_slots.specs.Naming.{NamesThere}
 use Rattle.dm_node.specs.NodeHeld.{AllHeldAreThere, AreKept}
+use Rattle.dm_node.proofs.Basics.{two_truths}
 use Rattle.dm_node.proofs.Closing.{CameOn, ClosesItsOwn, closes_as}
-
-pub two_truths : (b : Bool) → b ≡ true → b ≡ false → ⊥
-two_truths b is other = true≢false (sym is ∙ other)
 
 pub unlike : (j i : ℕ) → nat_eq j i ≡ false → j ≡ i → ⊥
 unlike j i e same = two_truths (nat_eq j i) (eq-eqb j i same) e
@@ -43,15 +41,6 @@ held_told others ps qs i e actions f kept told there named j c held = by (nat_eq
       at (sym (ap (holds_it c) (ap (peer_at qs) (eqb-true j i same) ∙ told.is)) ∙ held) (holds c told.before)
       (names_conn e c) refl refl
   by false other = there j c (sym (ap (holds_it c) (told.others j (unlike j i other))) ∙ held)
-
--- each neighbour is kept behind it
-pub kept_told : (ps qs : List (Option Peer)) (i : ℕ) (e : PeerEvent) (actions : List Action) → AreKept ps →
-    PeerIsTold ps qs i e actions → IfSome (peer_at qs i) IsKept → AreKept qs
-kept_told ps qs i e actions kept told looked j p at = by (nat_eq j i) refl where
-  by : (b : Bool) → nat_eq j i ≡ b → IsKept p
-  by true same =
-      subst (λ o. IfSome o IsKept) (ap (peer_at qs) (sym (eqb-true j i same)) ∙ at) looked
-  by false other = kept j p (sym (told.others j (unlike j i other)) ∙ at)
 
 -- nobody else holds a connection on which the event brings octets
 abbrev pub IsHolderOf : List (Option Peer) → PeerEvent → ℕ → Type 0

@@ -1,5 +1,5 @@
 -- What came on a node's connection is told out in one way.
-use Rattle.std.proofs.Common.{◌≡◌, inl, inr, ℕ, Bool, true, false, nat_eq, Option, None, Some, IfSome, unwrap_or, List, [], ◌∷◌, ◌++◌, length, refl, sym, ap, ◌∙◌, subst}
+use Rattle.std.proofs.Common.{◌≡◌, inl, inr, ℕ, Bool, true, false, nat_eq, Option, None, Some, IfSome, List, [], ◌∷◌, ◌++◌, length, refl, sym, ap, ◌∙◌, subst}
 use Rattle.std.specs.List.{concat}
 use Rattle.std.proofs.lemmas.Bool.{eqb-true}
 use Rattle.dm_base.specs.declared.node.Node.{Node}
@@ -26,11 +26,13 @@ use Rattle.dm_slots.specs.Intakes.{Intake, IsFirst, IsFaulty, IsToldOut, with_in
 use Rattle.dm_node.specs.NodeLaws.{AreSoundNeighbours}
 use Rattle.dm_node.specs.NodeStreams.{NodeTellsAlong, NodeTellsPieces}
 use Rattle.dm_node.specs.NodeStates.{NodeState, NodeAnswer, NodeTurn, NodeTellsOctets, NodeTellsMessage, NodeTellsFault, NodeTellsAs, NodeIsOut, node_fed, node_settled, with_node_intakes}
+use Rattle.dm_node.proofs.Basics.{one_some, one_inside, two_truths}
 use Rattle.dm_node.proofs.Newcomers.{PeerLaws, takes_named, last_at, stranger_free, peers_stay}
 use Rattle.dm_node.proofs.NodeCuts.{cuts_alike, fed_nothing}
-use Rattle.dm_node.proofs.NodeEmptying.{grown}
-use Rattle.dm_node.proofs.NodeMoving.{two_truths, unlike}
-use Rattle.dm_node.proofs.OneMove.{one_addressed, moves_once}
+use Rattle.dm_node.proofs.NodeMoving.{unlike}
+use Rattle.dm_node.proofs.Concerned.{one_addressed}
+use Rattle.dm_node.proofs.OneMove.{moves_once}
+use Rattle.dm_node.proofs.Places.{grown}
 
 -- what the laws of telling rest on
 pub record Wholly (ps : List (Option Peer)) : Type 0 where
@@ -66,9 +68,6 @@ tells_once policy c octets s r t u a b sound same h k =
     )
 
 -- one intake is there
-one_there : (o : Option Intake) (i j : Intake) → o ≡ Some i → o ≡ Some j → i ≡ j
-one_there o i j e d = ap (λ v. unwrap_or v i) (sym e ∙ d)
-
 -- the node with what is left of an intake
 abbrev with_rest : Conn → NodeState → Intake → List ℕ → NodeState
 with_rest c s i rest = with_node_intakes (with_intake c.0 (Some (record i { octets = rest })) s.intakes) s
@@ -79,7 +78,7 @@ with_broken c s i = with_node_intakes (with_intake c.0 (Some (broken_intake i)) 
 message_once : OneFront → (policy : Policy) (c : Conn) (s t u : NodeState) (a b : NodeAnswer) →
     IsNeighbourhood s.peers → NodeTellsMessage policy c s a t → NodeTellsMessage policy c s b u → (a ≡ b) × (t ≡ u)
 message_once front policy c s t u a b sound h k =
-    let same = one_there (s.intakes c.0) h.intake k.intake h.there k.there in
+    let same = one_inside (s.intakes c.0) h.intake k.intake h.there k.there in
     let first : IsFirst h.intake k.message k.rest = subst (λ i. IsFirst i k.message k.rest) (sym same) k.first in
     let one = front h.intake.max h.message k.message h.rest k.rest h.first.frame first.frame
     (sym h.first.octets ∙ first.octets) in
@@ -91,14 +90,14 @@ message_once front policy c s t u a b sound h k =
 fault_once : (policy : Policy) (c : Conn) (s t u : NodeState) (a b : NodeAnswer) → IsNeighbourhood s.peers →
     NodeTellsFault policy c s a t → NodeTellsFault policy c s b u → (a ≡ b) × (t ≡ u)
 fault_once policy c s t u a b sound h k =
-    let same = one_there (s.intakes c.0) h.intake k.intake h.there k.there in
+    let same = one_inside (s.intakes c.0) h.intake k.intake h.there k.there in
     tells_once policy c [] (with_broken c s h.intake) (with_broken c s k.intake) t u a b sound
     (ap (with_broken c s) same) h.told k.told
 
 message_or_fault : FrameOrFault → (policy : Policy) (c : Conn) (s t u : NodeState) (a b : NodeAnswer) →
     NodeTellsMessage policy c s a t → NodeTellsFault policy c s b u → ⊥
 message_or_fault either policy c s t u a b h k =
-    let same = one_there (s.intakes c.0) h.intake k.intake h.there k.there in
+    let same = one_inside (s.intakes c.0) h.intake k.intake h.there k.there in
     let faulty : IsFaulty h.intake = subst (λ i. IsFaulty i) (sym same) k.faulty in
     either h.intake.max h.message h.rest faulty.fault.0 h.first.frame
     (subst (λ l. HasFault h.intake.max l faulty.fault.0) h.first.octets faulty.fault.1)
@@ -131,9 +130,6 @@ out_tells_nothing policy None c s t a out h =
 out_tells_nothing policy (Some d) c s t a out h =
     let told : IsToldOut h.1.intake = subst (λ o. IfSome o IsToldOut) h.1.there out in
     (told h.1.first.whole).no_frame h.1.message h.1.rest h.1.first.frame h.1.first.octets
-
-one_some : (p q : Peer) → Some p ≡ Some q → p ≡ q
-one_some p q e = cc
 
 config_stays : EachEventIsOneStep → (p q : Peer) (e : PeerEvent) (actions : List Action) → acts p e ≡ Moved actions q →
     q.config ≡ p.config

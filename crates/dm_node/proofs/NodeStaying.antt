@@ -11,10 +11,9 @@ use Rattle.dm_peer.specs.Events.{PeerEvent, Arrived, Start}
 use Rattle.dm_slots.specs.Naming.{NamesThere, NamesAtMost}
 use Rattle.dm_slots.specs.Staying.{OpeningKeeps, ChangingKeeps, TellingKeeps, RaisingKeeps, ClosingKeeps, ShuttingKeeps}
 use Rattle.dm_node.specs.NodeHeld.{AllHeldAreThere}
-use Rattle.dm_base.specs.declared.node.Node.{Node}
 use Rattle.dm_node.specs.NodeStates.{NodeState, concerned_in, raised_for, node_settled, with_node_intakes}
 use Rattle.dm_node.specs.NodeOrders.{node_opened}
-use Rattle.dm_node.proofs.NodeMoving.{two_truths}
+use Rattle.dm_node.proofs.Basics.{two_truths}
 
 pub held_opened : OpeningKeeps → (ps : List (Option Peer)) (max d : ℕ) (f : Intakes) → AllHeldAreThere ps f →
     AllHeldAreThere ps (opened max d f)
@@ -82,19 +81,17 @@ pub done_or_not : {A E : Type 0} (r : Result A E) (P : Intakes → Type 0) (x ol
 done_or_not (Ok a) P x old new ok err there before = subst P (sym ok) there
 done_or_not (Err e) P x old new ok err there before = subst P (sym err) before
 
--- what is settled goes by the node, the neighbours and what is there
-abbrev pub node_at : NodeState → Node → List (Option Peer) → Intakes → NodeState
-node_at s n qs f = record { node = n; peers = qs; intakes = f; first_max = s.first_max; most = s.most }
+-- what is settled goes by the neighbours and what is there
+abbrev pub node_at : NodeState → List (Option Peer) → Intakes → NodeState
+node_at s qs f = record s { peers = qs; intakes = f }
 
 -- what is left behind an event of a node whose connections were these
-pub settled_as : (s : NodeState) (n : Node) (qs : List (Option Peer)) (who : Option ℕ) (actions : List Action)
-    (h g f : Intakes) → n ≡ s.node → h ≡ raised_for s.most (concerned_in qs who) (left_by actions g) → g ≡ f →
-    node_at s n qs h ≡ node_settled who qs actions (with_node_intakes f s)
-settled_as s n qs who actions h g f same left is =
-    ap (λ m. node_at s m qs h) same
-    ∙ ap (node_at s s.node qs) (left ∙ ap (λ x. raised_for s.most (concerned_in qs who) (left_by actions x)) is)
+pub settled_as : (s : NodeState) (qs : List (Option Peer)) (who : Option ℕ) (actions : List Action)
+    (h g f : Intakes) → h ≡ raised_for s.most (concerned_in qs who) (left_by actions g) → g ≡ f →
+    node_at s qs h ≡ node_settled who qs actions (with_node_intakes f s)
+settled_as s qs who actions h g f left is =
+    ap (node_at s qs) (left ∙ ap (λ x. raised_for s.most (concerned_in qs who) (left_by actions x)) is)
 
-pub node_is : (s : NodeState) (n m : Node) (qs rs : List (Option Peer)) (g f : Intakes) → n ≡ m → qs ≡ rs → g ≡ f →
-    node_at s n qs g ≡ node_at s m rs f
-node_is s n m qs rs g f node peers is =
-    ap (λ x. node_at s x qs g) node ∙ ap (λ l. node_at s m l g) peers ∙ ap (node_at s m rs) is
+pub node_is : (s : NodeState) (qs rs : List (Option Peer)) (g f : Intakes) → qs ≡ rs → g ≡ f →
+    node_at s qs g ≡ node_at s rs f
+node_is s qs rs g f peers is = ap (λ l. node_at s l g) peers ∙ ap (node_at s rs) is

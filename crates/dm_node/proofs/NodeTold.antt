@@ -1,10 +1,10 @@
 -- One event of a node: what is held behind it, what it closes, and why it is refused.
-use Rattle.std.proofs.Common.{◌≡◌, inl, inr, ◌⊎◌, ℕ, true, true≢false, Option, None, Some, IsSome, IfSome, IsTrue, List, refl, sym, ap, ◌∙◌, subst}
+use Rattle.std.proofs.Common.{◌≡◌, inl, inr, ◌⊎◌, ℕ, true, true≢false, Option, None, Some, IsSome, IsTrue, List, refl, sym, ap, ◌∙◌, subst}
 use Rattle.dm_base.specs.declared.node.Node.{Node}
 use Rattle.dm_machine.specs.declared.connection.Conn.{Conn}
 use Rattle.dm_node.specs.Calling.{caller_of}
 use Rattle.dm_node.specs.Declining.{IsDeclinedHere}
-use Rattle.dm_node.specs.Holding.{peer_at, AreApart}
+use Rattle.dm_node.specs.Holding.{AreApart}
 use Rattle.dm_node.specs.Policies.{Policy}
 use Rattle.dm_node.specs.Strangers.{NodeMoves, TellsConcerned, NodeIsTold}
 use Rattle.dm_node.specs.Telling.{Concerns, IsAddressed, IsFree, IsMisdirected, IsRefusedBy, IsRefusedHere, IsStrangeCer, told_of}
@@ -26,8 +26,8 @@ use Rattle.dm_slots.specs.Naming.{NamesThere}
 use Rattle.dm_node.specs.NodeHeld.{AllHeldAreThere, AreKept}
 use Rattle.dm_node.specs.NodeStates.{TakesMemoryAt}
 use Rattle.dm_node.proofs.Closing.{CameOn, ClosesItsOwn}
-use Rattle.dm_node.proofs.Newcomers.{PeerLaws, held_octets, kept_octets, closed_octets}
-use Rattle.dm_node.proofs.NodeMoving.{held_told, kept_told, closed_told}
+use Rattle.dm_node.proofs.Newcomers.{PeerLaws, held_octets, closed_octets}
+use Rattle.dm_node.proofs.NodeMoving.{held_told, closed_told}
 
 -- an event brings octets, which the policy tells, or it brings none, and no policy concerns it
 abbrev pub OctetsOrNone :
@@ -65,21 +65,6 @@ held_moved others laws policy e n ps qs who actions kept m f there named =
           held_octets others laws policy came.0 came.1 n ps qs who actions kept came.3 f there
           (subst (λ x. NamesThere x f) came.2 named)
       | inr plain ↦ held_plain others policy e ps qs who actions f kept plain.1 there named
-    ]
-
--- each neighbour is kept behind it
-kept_plain : (policy : Policy) (e : NodeEvent) (ps qs : List (Option Peer)) (who : Option ℕ) (actions : List Action) →
-    AreKept ps → TellsConcerned policy e ps who actions qs → IfSome who (λ i. IfSome (peer_at qs i) IsKept) → AreKept qs
-kept_plain policy e ps qs (Some i) actions kept m looked = kept_told ps qs i (told_of e) actions kept m.1 looked
-kept_plain policy e ps qs None actions kept m looked = subst AreKept (sym m.2) kept
-
-pub kept_moved : (policy : Policy) (e : NodeEvent) (n : Node) (ps qs : List (Option Peer)) (who : Option ℕ)
-    (actions : List Action) → AreKept ps → NodeIsTold policy e n ps who actions qs →
-    IfSome who (λ i. IfSome (peer_at qs i) IsKept) → AreKept qs
-kept_moved policy e n ps qs who actions kept m looked =
-    elim (by_event policy e n ps qs who actions m) [
-      | inl came ↦ kept_octets policy came.0 came.1 n ps qs who actions kept came.3 looked
-      | inr plain ↦ kept_plain policy e ps qs who actions kept plain.1 looked
     ]
 
 -- what is closed nobody holds behind it

@@ -1,49 +1,26 @@
 -- Octets on a node's connection come to one thing.
-use Rattle.std.proofs.Common.{◌≡◌, inl, inr, ℕ, suc, Bool, true, false, nat_eq, Option, None, Some, unwrap_or, List, [], ◌∷◌, length, refl, sym, ap, ◌∙◌, subst}
+use Rattle.std.proofs.Common.{◌≡◌, inl, inr, ℕ, suc, Bool, true, false, nat_eq, Option, None, Some, List, [], ◌∷◌, length, refl, sym, ap, ◌∙◌, subst}
 use Rattle.std.proofs.lemmas.Bool.{eqb-true}
 use Rattle.dm_base.specs.declared.node.Node.{Node}
-use Rattle.dm_base.specs.Before.{lower}
 use Rattle.dm_history.specs.History.{new_peer}
 use Rattle.dm_machine.specs.declared.connection.Conn.{Conn}
 use Rattle.dm_node.specs.Adding.{with_new}
-use Rattle.dm_node.specs.Calling.{Caller, caller_of}
-use Rattle.dm_node.specs.Holding.{peer_at, holds_at}
+use Rattle.dm_node.specs.Holding.{peer_at}
 use Rattle.dm_node.specs.Neighbourhoods.{IsNeighbourhood}
 use Rattle.dm_node.specs.Policies.{Policy}
 use Rattle.dm_node.specs.Strangers.{IsPermitted, Joins, NodeMoves}
-use Rattle.dm_node.specs.Telling.{IsCallOf, IsAddressed, PeerIsTold}
+use Rattle.dm_node.specs.Telling.{PeerIsTold}
 use Rattle.dm_peer.specs.declared.actions.Action.{Action}
 use Rattle.dm_peer.specs.declared.config.Config.{Config}
 use Rattle.dm_peer.specs.declared.peer.Peer.{Peer}
 use Rattle.dm_peer.specs.Acts.{Moved, acts}
 use Rattle.dm_peer.specs.Events.{PeerEvent, Arrived}
 use Rattle.dm_node.specs.NodeStates.{NodeAnswer}
+use Rattle.dm_node.proofs.Basics.{one_some}
+use Rattle.dm_node.proofs.Concerned.{one_addressed}
 use Rattle.dm_node.proofs.Configured.{one_permitted, permitted_or_not}
 use Rattle.dm_node.proofs.Newcomers.{OutOrTurnedOff, joined}
-use Rattle.dm_node.proofs.NodeMoving.{two_truths, unlike}
-
--- octets on a connection concern one
-some_is : (o : Option Caller) (a b : Caller) → o ≡ Some a → o ≡ Some b → a ≡ b
-some_is o a b x y = ap (λ v. unwrap_or v a) (sym x ∙ y)
-
-one_called : (ps : List (Option Peer)) (s : List ℕ) (i j : ℕ) → IsNeighbourhood ps → IsCallOf ps s i → IsCallOf ps s j →
-    i ≡ j
-one_called ps s i j n a b =
-    n.unlike.one i j (lower a.0.1) a.2
-    (b.2 ∙ ap (λ (x : Caller). Some (lower x.1)) (some_is (caller_of s) b.0 a.0 b.1 a.1))
-
-same_number : (i j : ℕ) → Some i ≡ Some j → i ≡ j
-same_number i j e = cc
-
-pub one_addressed : (policy : Policy) (ps : List (Option Peer)) (c : Conn) (s : List ℕ) (i j : ℕ) →
-    IsNeighbourhood ps → IsAddressed policy ps c s i → IsAddressed policy ps c s j → i ≡ j
-one_addressed policy ps c s i j n (inl a) (inl b) = n.apart.one i j c a b
-one_addressed policy ps c s i j n (inl a) (inr b) = absurd (two_truths (holds_at ps c i) a (b.0 i))
-one_addressed policy ps c s i j n (inr a) (inl b) = absurd (two_truths (holds_at ps c j) b (a.0 j))
-one_addressed policy ps c s i j n (inr (free, inl a)) (inr (also, inl b)) = one_called ps s i j n a b
-one_addressed policy ps c s i j n (inr (free, inl a)) (inr (also, inr b)) = absurd (b.0 i a)
-one_addressed policy ps c s i j n (inr (free, inr a)) (inr (also, inl b)) = absurd (a.0 j b)
-one_addressed policy ps c s i j n (inr (free, inr a)) (inr (also, inr b)) = same_number i j (sym a.1.0 ∙ b.1.0)
+use Rattle.dm_node.proofs.NodeMoving.{unlike}
 
 -- neighbours that are the same one by one are the same
 each_same : (qs rs : List (Option Peer)) → length qs ≡ length rs → ((j : ℕ) → peer_at qs j ≡ peer_at rs j) → qs ≡ rs
@@ -54,9 +31,6 @@ each_same (q ∷ qs) (r ∷ rs) count same =
     let first : q ≡ r = same 0 in
     let rest : length qs ≡ length rs = cc count in
     ap (λ x. x ∷ qs) first ∙ ap (λ l. r ∷ l) (each_same qs rs rest (λ j. same (suc j)))
-
-one_some : (p q : Peer) → Some p ≡ Some q → p ≡ q
-one_some p q e = cc
 
 same_actions : (a b : List Action) (p q : Peer) → Moved a p ≡ Moved b q → a ≡ b
 same_actions a b p q e = cc

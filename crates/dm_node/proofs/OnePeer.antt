@@ -17,6 +17,7 @@ use Rattle.dm_peer.specs.Holding.{holds}
 use Rattle.dm_peer.specs.Settled.{IsSettled}
 use Rattle.dm_node.specs.NodeLaws.{AreSoundNeighbours, DoesAsItsPeer, TurnsAsItsPeer, OneDoesAsItsPeer}
 use Rattle.dm_node.specs.NodeStates.{NodeState, NodeAnswer, NodeTellsOctets, NodeTellsAs, node_settled}
+use Rattle.dm_node.proofs.Basics.{one_some}
 use Rattle.dm_node.proofs.NodeMoving.{free_of}
 use Rattle.dm_node.proofs.NodeTold.{by_event}
 use Rattle.dm_node.proofs.Unheld.{ack_rests, nack_rests, gone_rests}
@@ -25,12 +26,6 @@ only_one : (qs : List (Option Peer)) (q : Peer) → length qs ≡ 1 → peer_at 
 only_one [] q count is = absurd (cc count)
 only_one (x ∷ []) q count is = ap (λ o. o ∷ []) is
 only_one (x ∷ y ∷ more) q count is = absurd (cc count)
-
-one_some : (p q : Peer) → Some p ≡ Some q → q ≡ p
-one_some p q e = cc (sym e)
-
-same_number : (i k : ℕ) → Some k ≡ Some i → k ≡ i
-same_number i k e = cc e
 
 -- the one neighbour moved as its peer does
 pub record MovesAlone (p : Peer) (e : PeerEvent) (actions : List Action) (who : ℕ) (qs : List (Option Peer))
@@ -44,7 +39,7 @@ at_first : (p : Peer) (qs : List (Option Peer)) (i : ℕ) (e : PeerEvent) (actio
     PeerIsTold (Some p ∷ []) qs i e actions → MovesAlone p e actions i qs
 at_first p qs zero e actions h = record {
   next = h.after;
-  acted = subst (λ x. acts x e ≡ Moved actions h.after) (one_some p h.before h.was) h.acts;
+  acted = subst (λ x. acts x e ≡ Moved actions h.after) (sym (one_some p h.before h.was)) h.acts;
   left = only_one qs h.after h.count h.is;
   first = refl;
 }
@@ -162,7 +157,7 @@ concerned_alone : (policy : Policy) (c : Conn) (octets : List ℕ) (n : Node) (p
 concerned_alone policy c octets n p ps qs (Some k) actions one (inl m) is =
     (k, refl, told_alone (Arrived c octets) p ps qs k actions one m.1)
 concerned_alone policy c octets n p ps qs (Some k) actions one (inr (config, permitted, joins)) is =
-    let clash : 0 ≡ length (Some p ∷ []) = sym (same_number 0 k is) ∙ joins.number ∙ ap length one in absurd (cc clash)
+    let clash : 0 ≡ length (Some p ∷ []) = sym (one_some k 0 is) ∙ joins.number ∙ ap length one in absurd (cc clash)
 concerned_alone policy c octets n p ps qs None actions one m is = absurd (cc is)
 
 concerned_told : (policy : Policy) (c : Conn) (octets : List ℕ) (p : Peer) (s t : NodeState) (answer : NodeAnswer) →

@@ -26,7 +26,7 @@ use Rattle.dm_node.specs.NodeLaws.{AreSoundNeighbours, IsLeftAlone}
 use Rattle.dm_node.specs.NodeStates.{NodeState, NodeAnswer, NodeTells, NodeTellsOctets, NodeTellsAs, concerned_in, raised_for, node_settled, with_node_intakes}
 use Rattle.dm_node.proofs.Closing.{ClosesItsOwn}
 use Rattle.dm_node.proofs.Newcomers.{PeerLaws, peers_stay, else_at, closed_octets}
-use Rattle.dm_node.proofs.NodeMoving.{two_truths}
+use Rattle.dm_node.proofs.Basics.{two_truths}
 use Rattle.dm_node.proofs.NodeTold.{by_event, closed_moved}
 
 -- a connection in a role is held

@@ -12,7 +12,8 @@ use Rattle.dm_node.specs.Owning.{has, owned_after, AreOwned, IsResettled}
 use Rattle.dm_node.specs.Telling.{IsFree}
 use Rattle.dm_node.proofs.Growing.{still}
 use Rattle.dm_node.proofs.Places.{kept_at}
-use Rattle.dm_node.proofs.Taking.{same_or, two_truths}
+use Rattle.dm_node.proofs.Basics.{two_truths}
+use Rattle.dm_node.proofs.Taking.{same_or}
 
 there_it : (c : Conn) (o : Option Peer) → holds_it c o ≡ true → IsSome o
 there_it c None h = cc

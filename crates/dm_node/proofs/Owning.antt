@@ -12,9 +12,9 @@ use Rattle.dm_node.specs.Holding.{holds_it, holds_at, AreApart}
 use Rattle.dm_node.specs.Owning.{has, AreOwned}
 use Rattle.dm_node.specs.Telling.{IsFree}
 use Rattle.dm_node.specs.declared.owners.Holding.{Holding}
-use Rattle.dm_node.proofs.NodeEmptying.{set_at}
 use Rattle.dm_node.proofs.NodeStaying.{by_number}
 use Rattle.dm_node.proofs.Owned.{owned_grown, owned_less, emptied}
+use Rattle.dm_node.proofs.Places.{set_or_none}
 use Rattle.dm_node.proofs.Rostered.{apart_set, resettled}
 
 -- owners that stay
@@ -44,7 +44,7 @@ owned_added (Err e) ps qs k f ok err owned = subst (AreOwned f) (sym err) owned
 set_free : (ps : List (Option Peer)) (i : ℕ) (y : Option Peer) (c : Conn) → holds_it c y ≡ false →
     holds_at (set ps i y) c i ≡ false
 set_free ps i y c free =
-    elim (set_at ps i y) [
+    elim (set_or_none ps i y) [
       | inl here ↦ ap (holds_it c) here ∙ free
       | inr none ↦ ap (holds_it c) none
     ]

@@ -46,6 +46,13 @@ set_at [] i y = inr refl
 set_at (x ∷ xs) zero y = inl refl
 set_at (x ∷ xs) (suc i) y = set_at xs i y
 
+-- nobody is read where there is no such place
+pub set_or_none : (ps : List (Option Peer)) (i : ℕ) (y : Option Peer) →
+    (peer_at (set ps i y) i ≡ y) ⊎ (peer_at (set ps i y) i ≡ None)
+set_or_none [] i y = inr refl
+set_or_none (x ∷ xs) zero y = inl refl
+set_or_none (x ∷ xs) (suc i) y = set_or_none xs i y
+
 -- the one behind the others
 pub grown_here : (ps : List (Option Peer)) (y : Option Peer) → peer_at (ps ++ y ∷ []) (length ps) ≡ y
 grown_here [] y = refl

@@ -7,10 +7,11 @@ use Rattle.dm_node.specs.Emptying.{set_back, with_set_back, without_peer, all_se
 use Rattle.dm_node.specs.Holding.{peer_at, host_of, host_at}
 use Rattle.dm_node.specs.Naming.{is_host, noted_number, AreHostsNoted, IsForgotten}
 use Rattle.dm_node.proofs.Keyed.{itself, is_that}
-use Rattle.dm_node.proofs.Named.{some_host, some_number, no_number, no_host, there_of, named_same, noted_same}
+use Rattle.dm_node.proofs.Named.{some_host, there_of, named_same, noted_same}
 use Rattle.dm_node.proofs.Places.{grown, grown_here, kept_at, set_here, set_else, set_at}
 use Rattle.dm_node.proofs.Rostered.{back_host, each_back}
-use Rattle.dm_node.proofs.Taking.{same_or, two_truths}
+use Rattle.dm_node.proofs.Basics.{one_some, no_some, two_truths}
+use Rattle.dm_node.proofs.Taking.{same_or}
 
 -- one more, whose host nobody has
 module _ (o n : Hosts) (ps : List (Option Peer)) (y : Peer) (named : AreHostsNoted o ps)
@@ -20,7 +21,7 @@ module _ (o n : Hosts) (ps : List (Option Peer)) (y : Peer) (named : AreHostsNot
   has_put : (h : List ℕ) (i : ℕ) (b : Bool) → is_host (lower y.config.peer) h ≡ b →
       (if b then Some (length ps) else noted_number o h) ≡ Some i → host_at (ps ++ Some y ∷ []) i ≡ Some h
   has_put h i true q e =
-      ap (host_at (ps ++ Some y ∷ [])) (sym (some_number e)) ∙ ap host_of (grown_here ps (Some y))
+      ap (host_at (ps ++ Some y ∷ [])) (sym (one_some _ _ e)) ∙ ap host_of (grown_here ps (Some y))
       ∙ ap Some (is_that (lower y.config.peer) h q)
   has_put h i false q e =
       let was : host_at ps i ≡ Some h = named.has h i e in
@@ -54,7 +55,7 @@ module _ (o n : Hosts) (ps : List (Option Peer)) (i : ℕ) (p : Peer) (at : peer
     (noted : (h : List ℕ) → noted_number n h ≡ if is_host (lower p.config.peer) h then None else noted_number o h) where
   has_less : (h : List ℕ) (j : ℕ) (b : Bool) → is_host (lower p.config.peer) h ≡ b →
       (if b then None else noted_number o h) ≡ Some j → host_at (without_peer ps i) j ≡ Some h
-  has_less h j true q e = no_number e
+  has_less h j true q e = no_some _ e
   has_less h j false q e =
       let was : host_at ps j ≡ Some h = named.has h j e in
       elim (same_or j i) [
@@ -69,7 +70,7 @@ module _ (o n : Hosts) (ps : List (Option Peer)) (i : ℕ) (p : Peer) (at : peer
   noted_less : (h : List ℕ) (j : ℕ) (b : Bool) → is_host (lower p.config.peer) h ≡ b → (j ≡ i → ⊥) →
       host_at ps j ≡ Some h → (if b then None else noted_number o h) ≡ Some j
   noted_less h j true q un e =
-      absurd (un (some_number (sym (named.noted h j e)
+      absurd (un (one_some _ _ (sym (named.noted h j e)
       ∙ named.noted h i (ap host_of at ∙ ap Some (is_that (lower p.config.peer) h q)))))
   noted_less h j false q un e = named.noted h j e
 
@@ -77,7 +78,7 @@ module _ (o n : Hosts) (ps : List (Option Peer)) (i : ℕ) (p : Peer) (at : peer
       (if is_host (lower p.config.peer) h then None else noted_number o h) ≡ Some j
   noted_left h j e =
       elim (same_or j i) [
-        | inl s ↦ no_host
+        | inl s ↦ no_some _
             (sym (ap host_of (set_here ps i None (subst IsSome (sym at) refl)))
             ∙ ap (host_at (without_peer ps i)) (sym s) ∙ e)
         | inr un ↦ noted_less h j (is_host (lower p.config.peer) h) refl un

@@ -1,14 +1,19 @@
 -- What keeps a roster.
-use Rattle.std.proofs.Common.{◌≡◌, ℕ, zero, suc, true, false, List, [], ◌∷◌, option_map, Option, None, Some, refl, sym, ap, subst, ◌∙◌, inl, inr}
+use Rattle.std.proofs.Common.{◌≡◌, ℕ, zero, suc, true, false, List, [], ◌∷◌, ◌++◌, option_map, Option, None, Some, IfSome, refl, sym, ap, subst, ◌∙◌, inl, inr}
 use Rattle.std.proofs.Math.ListN.{set}
 use Rattle.dm_machine.specs.declared.connection.Conn.{Conn}
 use Rattle.dm_peer.specs.declared.peer.Peer.{Peer}
+use Rattle.dm_peer.specs.Kept.{IsKept}
+use Rattle.dm_peer.specs.Settled.{FreshIsSettled}
+use Rattle.dm_peer.specs.Spelled.{FreshIsFitting}
 use Rattle.dm_node.specs.Emptying.{set_back, all_set_back}
 use Rattle.dm_node.specs.Holding.{peer_at, holds_it, holds_at, host_of, host_at, AreApart, AreUnlike}
+use Rattle.dm_node.specs.NodeHeld.{AreKept}
 use Rattle.dm_node.specs.Owning.{has, IsResettled}
 use Rattle.dm_node.specs.declared.owners.Holding.{Holding}
-use Rattle.dm_node.proofs.Places.{set_at, set_else}
-use Rattle.dm_node.proofs.Taking.{same_or, two_truths}
+use Rattle.dm_node.proofs.Basics.{no_some, two_truths}
+use Rattle.dm_node.proofs.Places.{grown, set_at, set_or_none, set_else}
+use Rattle.dm_node.proofs.Taking.{same_or}
 
 -- fewer are held
 pub apart_less : (ps qs : List (Option Peer)) →
@@ -101,3 +106,57 @@ pub unlike_all : (ps qs : List (Option Peer)) → qs ≡ all_set_back ps → Are
 unlike_all ps qs is unlike =
     subst AreUnlike (sym is) (unlike_less ps (all_set_back ps)
     (λ j h e. sym (back_host (peer_at ps j)) ∙ sym (ap host_of (each_back ps j)) ∙ e) unlike)
+
+-- each stays what events make of a new peer
+pub kept_set : (ps qs : List (Option Peer)) (i : ℕ) (y : Option Peer) → qs ≡ set ps i y →
+    ((p : Peer) → y ≡ Some p → IsKept p) → AreKept ps → AreKept qs
+kept_set ps qs i y is here kept = subst AreKept (sym is) all where
+  at_place : (p : Peer) → peer_at (set ps i y) i ≡ Some p → IsKept p
+  at_place p at =
+      elim (set_or_none ps i y) [
+        | inl a ↦ here p (sym a ∙ at)
+        | inr b ↦ no_some p (sym b ∙ at)
+      ]
+
+  all : AreKept (set ps i y)
+  all j p at =
+      elim (same_or j i) [
+        | inl s ↦ at_place p (subst (λ n. peer_at (set ps i y) n ≡ Some p) s at)
+        | inr un ↦ kept j p (sym (set_else ps i j y un) ∙ at)
+      ]
+
+pub none_kept : (p : Peer) → None ≡ Some p → IsKept p
+none_kept p e = no_some p e
+
+pub kept_grown : (ps : List (Option Peer)) (y : Peer) → IsKept y → AreKept ps → AreKept (ps ++ Some y ∷ [])
+kept_grown ps y here kept j p at =
+    elim (grown ps (Some y) j) [
+      | inl same ↦ kept j p (sym same ∙ at)
+      | inr last ↦ subst (λ o. IfSome o IsKept) (sym last.1 ∙ at) here
+    ]
+
+pub kept_told : (ps qs : List (Option Peer)) (i : ℕ) (q : Peer) → peer_at qs i ≡ Some q → IsKept q →
+    ((j : ℕ) → (j ≡ i → ⊥) → peer_at qs j ≡ peer_at ps j) → AreKept ps → AreKept qs
+kept_told ps qs i q here is others kept j p at =
+    elim (same_or j i) [
+      | inl s ↦ subst (λ o. IfSome o IsKept) (sym here ∙ subst (λ n. peer_at qs n ≡ Some p) s at) is
+      | inr un ↦ kept j p (sym (others j un) ∙ at)
+    ]
+
+-- one that was set back does too
+pub back_kept : FreshIsSettled → FreshIsFitting → (o : Option Peer) (p : Peer) → ((q : Peer) → o ≡ Some q → IsKept q) →
+    option_map set_back o ≡ Some p → IsKept p
+back_kept settled fitting None p kept at = absurd (cc at)
+back_kept settled fitting (Some q) p kept at =
+    subst (λ o. IfSome o IsKept) at
+    (record {
+      settled = settled q.config q.standing.next;
+      fitting = fitting q.config q.standing.next (kept q refl).fitting.next;
+    })
+
+-- each one that was set back does
+pub kept_all : FreshIsSettled → FreshIsFitting → (ps qs : List (Option Peer)) → qs ≡ all_set_back ps → AreKept ps →
+    AreKept qs
+kept_all settled fitting ps qs is kept j p at =
+    back_kept settled fitting (peer_at ps j) p (kept j)
+    (sym (each_back ps j) ∙ sym (ap (λ l. peer_at l j) is) ∙ at)

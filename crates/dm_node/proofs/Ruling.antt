@@ -23,7 +23,7 @@ use Rattle.dm_peer.specs.Kept.{IsKept}
 use Rattle.dm_peer.specs.Refusing.{RefusesByRule, fault_at, refusal_of, start_refusal}
 use Rattle.dm_wire.specs.Whole.{message_in}
 use Rattle.dm_node.proofs.Concerned.{one_there}
-use Rattle.dm_node.proofs.Errors.{not_done, same_fault}
+use Rattle.dm_node.proofs.Basics.{not_done, same_fault}
 
 -- a neighbour refuses, or nobody is named: a misdirected event is no neighbour's refusal
 pub never_of_peer : (ps : List (Option Peer)) (e : NodeEvent) (f : PeerFault) → IsMisdirected ps e (fault.Peer f) → ⊥

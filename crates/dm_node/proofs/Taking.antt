@@ -4,6 +4,7 @@ use Rattle.std.proofs.Math.ListN.{set}
 use Rattle.std.proofs.lemmas.List.{length-set}
 use Rattle.dm_base.specs.Before.{lower}
 use Rattle.dm_peer.specs.declared.config.Config.{Config}
+use Rattle.dm_node.proofs.Basics.{two_truths}
 use Rattle.dm_node.proofs.Places.{set_else}
 use Rattle.dm_machine.specs.declared.connection.Conn.{Conn}
 use Rattle.dm_machine.specs.Connection.{Hold, NotHeld, Pending, Made, OpenAsI, ClosingAsI, Taken, OpenAsR, ClosingAsR, Concern, concern_of, if_named, AtConnection}
@@ -97,10 +98,6 @@ same_or zero zero = inl refl
 same_or zero (suc b) = inr (λ h. omega arith)
 same_or (suc a) zero = inr (λ h. omega arith)
 same_or (suc a) (suc b) = elim (same_or a b) [ inl h ↦ inl (ap suc h) | inr n ↦ inr (λ h. n (omega arith)) ]
-
-pub two_truths : (b : Bool) → b ≡ true → b ≡ false → ⊥
-two_truths true p q = cc
-two_truths false p q = cc
 
 else_before : (ps : List (Option Peer)) (i j : ℕ) (y : Peer) (c : Conn) → (j ≡ i → ⊥) →
     holds_at (set ps i (Some y)) c j ≡ true →

@@ -20,7 +20,7 @@ use Rattle.dm_peer.specs.Events.{PeerEvent, Ack, Nack, Gone}
 use Rattle.dm_peer.specs.Holding.{is_held, holds}
 use Rattle.dm_peer.specs.Settled.{IsSettled}
 use Rattle.dm_peer.specs.declared.peer.Peer.{Peer}
-use Rattle.dm_node.proofs.NodeMoving.{two_truths}
+use Rattle.dm_node.proofs.Basics.{two_truths}
 use Rattle.dm_node.proofs.Others.{as_is_held}
 
 -- a connection that isn't held has no place

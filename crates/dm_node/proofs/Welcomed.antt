@@ -1,6 +1,5 @@
 -- A host that is no neighbour becomes one, or is turned away.
 use Rattle.std.proofs.Common.{◌≡◌, ◌≤◌, ◌<◌, inl, inr, ◌⊎◌, ℕ, suc, Bool, true, false, Option, None, Some, IfSome, IfNone, Result, Ok, Err, IfOk, OnOk, List, [], ◌∷◌, ◌++◌, length, refl, sym, ap, subst, ◌∙◌}
-use Rattle.dm_base.specs.Before.{lower}
 use Rattle.dm_base.specs.declared.node.Node.{Node}
 use Rattle.dm_history.specs.History.{new_peer}
 use Rattle.dm_machine.specs.declared.connection.Conn.{Conn}
@@ -12,16 +11,16 @@ use Rattle.dm_peer.specs.declared.config.Config.{Config}
 use Rattle.dm_peer.specs.declared.fault.ConfigFault.{ConfigFault}
 use Rattle.dm_peer.specs.declared.peer.Peer.{Peer}
 use Rattle.dm_node.specs.Calling.{Caller, caller_of, answer_to}
-use Rattle.dm_node.specs.Holding.{peer_at, holds, holds_it, holds_at, host_at, AreApart}
+use Rattle.dm_node.specs.Holding.{peer_at, holds, holds_it, holds_at, AreApart}
 use Rattle.dm_node.specs.Owning.{has, IsResettled}
 use Rattle.dm_node.specs.Policies.{Policy, IsMadeFor, IsUnfit, MakesFor, MakesNoneFor}
-use Rattle.dm_node.specs.Strangers.{present, IsStrangeHost, IsPermitted, IsForbidden, Joins, StaysOut, NodeMoves, TellsConcerned, NodeIsTold}
+use Rattle.dm_node.specs.Strangers.{present, IsPermitted, IsForbidden, Joins, StaysOut, NodeMoves, TellsConcerned, NodeIsTold}
 use Rattle.dm_node.specs.Telling.{Concerns, IsAddressed, IsFree, PeerIsTold, told_of}
 use Rattle.dm_node.specs.declared.events.NodeEvent.{NodeEvent}
 use Rattle.dm_node.specs.declared.events.NodeEvent.TheVariants as event
 use Rattle.dm_node.specs.declared.owners.Holding.{Holding}
+use Rattle.dm_node.proofs.Basics.{one_inside, two_truths}
 use Rattle.dm_node.proofs.Places.{grown, grown_here}
-use Rattle.dm_node.proofs.Taking.{two_truths}
 
 -- the others behind whom one more is put
 grown_else : (ps : List (Option Peer)) (y : Option Peer) (j : ℕ) → (j ≡ length ps → ⊥) →
@@ -72,15 +71,6 @@ free_behind ps c y free takes d j held = by (holds_at ps d j) refl
     by true q =
         absurd (two_truths (holds d y) held
         (takes d (λ same. two_truths (holds_at ps d j) q (subst (λ x. holds_at ps x j ≡ false) same (free j)))))
-
--- nobody has the host that calls
-pub unknown_host : (policy : Policy) (ps : List (Option Peer)) (c : Conn) (octets host : List ℕ) →
-    IsStrangeHost policy ps c octets host → (j : ℕ) → host_at ps j ≡ Some (lower host) → ⊥
-unknown_host policy ps c octets host u j is =
-    u.nobody j (inr (
-      free_at policy ps c octets u.nobody,
-      inl (u.call, u.calls, subst (λ h. host_at ps j ≡ Some (lower h)) (sym u.named) is),
-    ))
 
 -- one more, of whose connections nobody holds any
 pub apart_admitted : (ps : List (Option Peer)) (y : Peer) →
@@ -167,17 +157,13 @@ permits policy ps octets call o calls room h =
       room = room;
     }) h
 
-one_caller : (o : Option Caller) (a b : Caller) → o ≡ Some a → o ≡ Some b → a ≡ b
-one_caller None a b x y = absurd (cc)
-one_caller (Some z) a b x y = cc
-
 -- and where none is made for it nobody is
 pub forbids : (policy : Policy) (ps : List (Option Peer)) (octets : List ℕ) (call : Caller) →
     caller_of octets ≡ Some call → (policy.most ≤ present ps) ⊎ MakesNoneFor policy call.1 → (c : Conn) →
     IsForbidden policy ps c octets
 forbids policy ps octets call calls none c host h =
     subst (λ x. (policy.most ≤ present ps) ⊎ MakesNoneFor policy x)
-    (ap (λ (x : Caller). x.1) (one_caller (caller_of octets) call h.call calls h.calls) ∙ h.named) none
+    (ap (λ (x : Caller). x.1) (one_inside (caller_of octets) call h.call calls h.calls) ∙ h.named) none
 
 pub forbids_none : (policy : Policy) (ps : List (Option Peer)) (octets : List ℕ) → caller_of octets ≡ None →
     (c : Conn) → IsForbidden policy ps c octets

@@ -45,8 +45,7 @@ abbrev pub ShutsUnheld : Conn → NodeState → NodeState → Type 0
 ShutsUnheld c s t =
     ((i : ℕ) × (holds_at s.peers c i ≡ true) × (t ≡ s)) ⊎ (IsFree s.peers c × (t ≡ node_shut c s))
 
--- A connection that was asked for can't be made: it is told, and then it is no more there. A Nack of one that was made
--- changes nothing.
+-- A connection that was asked for can't be made: it is told, and then it is no more there, unless a neighbour holds it.
 abbrev pub NodeTellsNack : Conn → NodeState → Option NodeAnswer → NodeState → Type 0
 NodeTellsNack c s asks t = (m : NodeState) × NodeTellsIfThere c (event.Nack c) s asks m × ShutsUnheld c m t
 

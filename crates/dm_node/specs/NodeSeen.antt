@@ -9,8 +9,8 @@ use Rattle.dm_node.specs.NodeStates.{NodeState}
 abbrev pub node_state_of : declared.Node → NodeState
 node_state_of s =
     record {
-      node = s.neighbours.node;
-      peers = s.neighbours.peers;
+      node = s.own;
+      peers = s.neighbours;
       intakes = intakes_of s.intakes;
       first_max = s.first_max;
       most = s.most;

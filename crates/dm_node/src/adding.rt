@@ -1,34 +1,14 @@
 //! One neighbour more.
-ghost use Rattle.std.specs.Prelude.{◌≡◌, ◌⊎◌, ◌↔◌, ◌<◌, ◌∷◌, [], ◌++◌, ℕ, List, Some, length, IfOk, IfErr};
-ghost use Rattle.std.specs.Prelude.{IsErrOf, OnOk, OnErr, vec_len, vec_capacity, if◌then◌else◌};
+ghost use Rattle.std.specs.Prelude.{◌≡◌, ◌⊎◌, ◌↔◌, ◌<◌, ℕ, List, Some, length, IfErr, IsErrOf, OnOk, OnErr};
+ghost use Rattle.std.specs.Prelude.{vec_len, vec_capacity, if◌then◌else◌};
 ghost use Rattle.dm_base.specs.Before.{lower};
-ghost use Rattle.dm_node.specs.Holding.{host_at, IsKnown, AreApart, AreUnlike};
-ghost use Rattle.dm_node.specs.Adding.{with_new};
+ghost use Rattle.dm_node.specs.Holding.{host_at, IsKnown};
 ghost use Rattle.dm_node.specs.Naming.{is_host, noted_number, AreHostsNoted};
 ghost use Rattle.dm_node.specs.declared.fault.AddFault.TheVariants.{Known, NoMemory};
 
 use crate::AddFault;
 use crate::hosts::Hosts;
 use dm_peer::{Config, Peer};
-
-/// Puts a closed peer of the configuration behind the others, where no other has its host.
-fn append(peers: &mut Vec<Option<Peer>>, config: Config)
-    requires room { vec_len peers.old < vec_capacity peers.old }
-    requires unknown { (j : ℕ) → host_at peers.old.items j ≡ Some (lower config.peer) → ⊥ }
-    ensures added { peers.new.items ≡ with_new peers.old.items config }
-    ensures apart { AreApart peers.old.items → AreApart peers.new.items }
-    ensures unlike { AreUnlike peers.old.items → AreUnlike peers.new.items }
-{
-    peers.push_reserved(Some(Peer::new(config)));
-}
-
-/// Puts a peer behind the others, where there is room.
-pub(crate) fn push(peers: &mut Vec<Option<Peer>>, peer: Peer)
-    requires { vec_len peers.old < vec_capacity peers.old }
-    ensures { peers.new.items ≡ peers.old.items ++ Some peer ∷ [] }
-{
-    peers.push_reserved(Some(peer));
-}
 
 /// Makes room for a neighbour of this configuration, where none has its host, and notes its number for that.
 pub(crate) fn make_room(
@@ -56,31 +36,5 @@ pub(crate) fn make_room(
             },
             Err(_) => Err(AddFault::NoMemory),
         },
-    }
-}
-
-/// Puts a closed peer of the configuration behind the others.
-pub(crate) fn put(
-    peers: &mut Vec<Option<Peer>>,
-    hosts: &mut Hosts,
-    config: Config,
-) -> Result<usize, AddFault>
-    requires named { AreHostsNoted hosts.old peers.old.items }
-    ensures number { IfOk result (λ i. i ≡ length peers.old.items) }
-    ensures added { OnOk result (peers.new.items ≡ with_new peers.old.items config) }
-    ensures known { IsErrOf result Known ↔ IsKnown peers.old.items config.peer }
-    ensures refuses { IfErr result (λ f. (f ≡ Known) ⊎ (f ≡ NoMemory)) }
-    ensures unchanged { OnErr result (peers.new.items ≡ peers.old.items) }
-    ensures apart { AreApart peers.old.items → AreApart peers.new.items }
-    ensures unlike { AreUnlike peers.old.items → AreUnlike peers.new.items }
-    ensures named { AreHostsNoted hosts.new peers.new.items }
-{
-    let index = peers.as_slice().len();
-    match make_room(peers, hosts, &config) {
-        Ok(()) => {
-            append(peers, config);
-            Ok(index)
-        }
-        Err(fault) => Err(fault),
     }
 }

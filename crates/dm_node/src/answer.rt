@@ -22,7 +22,7 @@ pub enum Told {
 pub struct Answer {
     /// What was told.
     pub told: Told,
-    /// The number of the neighbour that was told it; none for a stranger, and where nothing was told.
+    /// The number of the neighbour that was told it, or was removed; none where nobody was.
     pub neighbour: Option<usize>,
     /// What is to be done, in this order.
     pub actions: Actions,

@@ -22,7 +22,7 @@ ghost use Rattle.std.specs.Option.{option_map};
 ghost use Rattle.dm_node.specs.NodeSeen.{node_state_of, node_known_of};
 ghost use Rattle.dm_node.specs.Answers.{IsUntold, asks_of};
 
-use crate::neighbours::neighbours_are_apart;
+use crate::neighbours::neighbours_are_sound;
 use crate::settling::settle;
 use crate::telling::tell_event;
 use crate::{Answer, Node, NodeEvent, Order, OrderFault, Told};
@@ -33,7 +33,7 @@ use dm_slots::laws::what_is_there_stays;
 use std::alloc::Global;
 
 /// Why a Start is refused at the peer, if it is.
-fn start_rule(peer: &Peer) -> Option<OrderFault>
+fn peer_start_fault(peer: &Peer) -> Option<OrderFault>
     ensures { result ≡ option_map faults.Peer (start_refusal peer.now.standing.core.state) }
 {
     match peer.state() {
@@ -52,8 +52,9 @@ impl Node {
     /// stays, also where the neighbour begins anew.
     ///
     /// # Errors
-    /// `NoNeighbour` for a number that no neighbour has, what the neighbour's peer refuses, and `NoMemory`. The node is
-    /// as it was after each, and the order can be told again.
+    /// `NoNeighbour` for a number that no neighbour has, but not of a Reset, nor of a Start whose connection is there:
+    /// these do nothing then. What the neighbour's peer refuses, and `NoMemory`. The node is as it was after each, and
+    /// the order can be told again.
     pub fn order(
         &mut self,
         alloc: Global,
@@ -89,7 +90,7 @@ impl Node {
         ensures cleared { OnErr result (IsUntold answer.new) }
     {
         answer.clear();
-        let done = self.drive(alloc, order, answer);
+        let done = self.take_order(alloc, order, answer);
         if done.is_err() {
             answer.clear();
         }
@@ -97,7 +98,7 @@ impl Node {
     }
 
     /// Takes an order.
-    fn drive(
+    fn take_order(
         &mut self,
         alloc: Global,
         order: Order<'_>,
@@ -120,22 +121,22 @@ impl Node {
     {
         match order {
             Order::Start(index, conn) => self.start(alloc, index, conn, answer),
-            Order::Ack(conn) => self.tell_there(alloc, conn, NodeEvent::Ack(conn), answer),
+            Order::Ack(conn) => self.tell_if_there(alloc, conn, NodeEvent::Ack(conn), answer),
             Order::Nack(conn) => self.nack(alloc, conn, answer),
             Order::Accept(conn) => match self.open(alloc, conn) {
                 Ok(()) => Ok(()),
                 Err(_) => Err(OrderFault::Peer(PeerFault::NoMemory)),
             },
             Order::Gone(conn) => self.gone(alloc, conn, answer),
-            Order::Timeout(index) => self.tell_once(alloc, NodeEvent::Timeout(index), answer),
-            Order::Tick(index) => self.tell_once(alloc, NodeEvent::Tick(index), answer),
-            Order::Stop(index, cause) => self.tell_once(
+            Order::Timeout(index) => self.tell_ordered(alloc, NodeEvent::Timeout(index), answer),
+            Order::Tick(index) => self.tell_ordered(alloc, NodeEvent::Tick(index), answer),
+            Order::Stop(index, cause) => self.tell_ordered(
                 alloc,
                 NodeEvent::Stop(index, cause),
                 answer,
             ),
             Order::Submit(index, octets) => {
-                self.tell_once(alloc, NodeEvent::Submit(index, octets), answer)
+                self.tell_ordered(alloc, NodeEvent::Submit(index, octets), answer)
             }
             Order::Reset(index) => {
                 self.set_back(index);
@@ -149,7 +150,7 @@ impl Node {
     }
 
     /// Tells an event of an order, which names no connection that isn't there.
-    fn tell_once(
+    fn tell_ordered(
         &mut self,
         alloc: Global,
         event: NodeEvent<'_>,
@@ -174,6 +175,7 @@ impl Node {
     {
         match tell_event(
             alloc,
+            &self.own,
             &mut self.neighbours,
             &mut self.known,
             &self.intakes,
@@ -197,7 +199,7 @@ impl Node {
     }
 
     /// Tells an event of the connection, which names no other, where that is there.
-    fn tell_there(
+    fn tell_if_there(
         &mut self,
         alloc: Global,
         conn: Conn,
@@ -223,7 +225,7 @@ impl Node {
         ensures spelled { OnOk result (All SendsSpelling answer.new.actions.items) }
     {
         if self.has(conn) {
-            self.tell_once(alloc, event, answer)
+            self.tell_ordered(alloc, event, answer)
         } else {
             Ok(())
         }
@@ -240,7 +242,7 @@ impl Node {
         }
     }
 
-    /// Tells that the connection can't be made. It is no more there then, but where it was made already.
+    /// Tells that the connection can't be made. It is no more there then, but where a neighbour holds it.
     fn nack(&mut self, alloc: Global, conn: Conn, answer: &mut Answer) -> Result<(), OrderFault>
         requires { IsUntold answer.old }
         ensures told { OnOk result (NodeTellsNack conn (node_state_of self.old)
@@ -257,7 +259,7 @@ impl Node {
             → ToldTakesMemory (told_there conn (Nack conn) (node_state_of self.old)) (node_state_of self.old) }
         ensures spelled { OnOk result (All SendsSpelling answer.new.actions.items) }
     {
-        match self.tell_there(alloc, conn, NodeEvent::Nack(conn), answer) {
+        match self.tell_if_there(alloc, conn, NodeEvent::Nack(conn), answer) {
             Ok(()) => {
                 self.shut_unheld(conn);
                 Ok(())
@@ -284,8 +286,8 @@ impl Node {
         ensures spelled { OnOk result (All SendsSpelling answer.new.actions.items) }
     {
         each_event_names_what_it_takes();
-        neighbours_are_apart(&self.neighbours);
-        match self.tell_there(alloc, conn, NodeEvent::Gone(conn), answer) {
+        neighbours_are_sound(&self.neighbours);
+        match self.tell_if_there(alloc, conn, NodeEvent::Gone(conn), answer) {
             Ok(()) => {
                 self.shut(conn);
                 Ok(())
@@ -303,8 +305,9 @@ impl Node {
         ensures none { IfNone result (IsUnruled no_strangers (node_state_of self.now).peers (Start index conn)) }
     {
         refusals_go_by_rule();
+        neighbours_are_sound(&self.neighbours);
         match self.neighbours.peer(index) {
-            Some(peer) => start_rule(peer),
+            Some(peer) => peer_start_fault(peer),
             None => Some(OrderFault::NoNeighbour),
         }
     }
@@ -341,7 +344,7 @@ impl Node {
             return Err(fault);
         }
         match self.open(alloc, conn) {
-            Ok(()) => match self.tell_once(alloc, NodeEvent::Start(index, conn), answer) {
+            Ok(()) => match self.tell_ordered(alloc, NodeEvent::Start(index, conn), answer) {
                 Ok(()) => Ok(()),
                 Err(fault) => {
                     self.shut(conn);

@@ -1,6 +1,6 @@
 //! What a node is told.
 use dm_base::Cause;
-use dm_peer::{Actions, Conn};
+use dm_peer::Conn;
 
 /// One thing that happens to a node. A neighbour is named by its number, in order of adding; connections have one space
 /// of numbers for the whole node.
@@ -24,13 +24,4 @@ pub enum NodeEvent<'a> {
     Arrived(Conn, &'a [u8]),
     /// The other side closed the connection, or it was lost.
     Gone(Conn),
-}
-
-/// What an event asks for that concerns no neighbour, and which one was made of it.
-#[derive(Drop)]
-pub(crate) struct NodeActions {
-    /// The number of the neighbour that did it; none for a stranger.
-    pub(crate) neighbour: Option<usize>,
-    /// What is to be done, in this order.
-    pub(crate) actions: Actions,
 }

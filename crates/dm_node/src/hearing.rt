@@ -60,6 +60,7 @@ impl Node {
         match self.intakes.whole_in(conn, piece) {
             Some(size) => match tell_message(
                 alloc,
+                &self.own,
                 &mut self.neighbours,
                 &mut self.known,
                 &self.intakes,

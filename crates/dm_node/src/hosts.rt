@@ -13,7 +13,7 @@ use indexmap::IndexMap;
 use std::alloc::Global;
 
 /// The most octets of a host's name.
-const MAX_NAME: usize = 255;
+const MAX_NAME_LEN: usize = 255;
 
 /// The number of the neighbour for each host in lower case.
 #[derive(Drop)]
@@ -23,11 +23,11 @@ pub(crate) struct Hosts {
 }
 
 /// The host in lower case, where it isn't too long for one. It never answers want of memory.
-fn lowered(host: &[u8]) -> Option<ArrayVec<u8, MAX_NAME>>
+fn lowered(host: &[u8]) -> Option<ArrayVec<u8, MAX_NAME_LEN>>
     ensures lower { IfSome result (λ l. l.items ≡ lower host.now) }
     ensures long { IfNone result (max_name_len < length host.now) }
 {
-    if host.len() > MAX_NAME {
+    if host.len() > MAX_NAME_LEN {
         return None;
     }
     let mut lower = ArrayVec::new();
@@ -60,7 +60,7 @@ impl Hosts {
     }
 
     /// Notes the number for a host in lower case.
-    fn put(&mut self, key: &[u8], index: usize) -> Result<(), NoMemory>
+    fn note_lowered(&mut self, key: &[u8], index: usize) -> Result<(), NoMemory>
         ensures noted { OnOk result ((h : List ℕ)
             → noted_number self.new h ≡ if is_host key.now h then Some index else noted_number self.old h) }
         ensures unchanged { OnErr result ((h : List ℕ) → noted_number self.new h ≡ noted_number self.old h) }
@@ -78,7 +78,7 @@ impl Hosts {
         ensures unchanged { OnErr result ((h : List ℕ) → noted_number self.new h ≡ noted_number self.old h) }
     {
         match lowered(host) {
-            Some(key) => self.put(key.as_slice(), index),
+            Some(key) => self.note_lowered(key.as_slice(), index),
             None => unreachable!(),
         }
     }

@@ -25,7 +25,7 @@ use dm_slots::laws::what_is_there_stays;
 pub fn neighbours_are_apart(node: &Node)
     ensures { IsNeighbourhood (node_state_of node.now).peers }
 {
-    neighbours::neighbours_are_apart(&node.neighbours);
+    neighbours::neighbours_are_sound(&node.neighbours);
 }
 
 /// Where no connection is held by two neighbours and no two have one host, an event concerns one neighbour at most.
@@ -62,7 +62,7 @@ pub fn held_are_there(node: &Node)
 pub fn neighbours_are_sound(node: &Node)
     ensures { AreSoundNeighbours (node_state_of node.now).peers }
 {
-    neighbours::neighbours_are_apart(&node.neighbours);
+    neighbours::neighbours_are_sound(&node.neighbours);
 }
 
 /// What is told one neighbour leaves the others alone: each is what it was, and so is what came on the connections that

@@ -24,7 +24,6 @@ mod offering;
 mod one_told;
 mod order;
 mod owners;
-mod roster;
 mod routing;
 mod settling;
 mod strangers;

@@ -1,73 +1,20 @@
 //! Whom the neighbours of a node meet by what they are told.
-ghost use Rattle.std.specs.Prelude.{◌≡◌, ℕ, true, false, cond, nat_lt, length, [], None, Some, IfOk};
-ghost use Rattle.std.specs.Prelude.{OnOk, OnErr};
-ghost use Rattle.dm_machine.specs.declared.connection.Conn.{Conn};
-ghost use Rattle.dm_machine.specs.declared.state_name.State.TheVariants.{Closed};
-ghost use Rattle.dm_node.specs.Holding.{peer_at, holds_at};
-ghost use Rattle.dm_node.specs.Owning.{has};
-ghost use Rattle.dm_node.specs.Telling.{Concerns, IsWhose};
-ghost use Rattle.dm_node.specs.Policies.{Policy};
-ghost use Rattle.dm_node.specs.declared.events.NodeEvent.{NodeEvent as OneEvent};
+ghost use Rattle.std.specs.Prelude.{◌≡◌, ℕ, true, false, cond, nat_lt, length, [], None, Some, IfOk, OnOk, OnErr};
+ghost use Rattle.dm_node.specs.Holding.{peer_at};
+ghost use Rattle.dm_node.specs.NodeKnown.{known_of, HasSparePlace, with_known, given_place};
 ghost use Rattle.dm_peer.specs.declared.peer.Peer.{Peer as OnePeer};
 ghost use Rattle.dm_slots.specs.Acquaintances.{is_exchange_to, known_after, known_if_any};
-ghost use Rattle.dm_node.specs.NodeKnown.{known_of, HasSparePlace, with_known};
-ghost use Rattle.dm_node.specs.NodeKnown.{given_place, peer_state};
 
 use crate::known::Acquaintances;
-use crate::laws::one_is_concerned;
-use crate::neighbours::{Neighbours, neighbours_are_apart};
-use crate::owners::Holding;
+use crate::neighbours::Neighbours;
 use dm_machine::{Conn, State};
 use dm_slots::is_exchange;
 use dm_wire::Octets;
 use std::alloc::{AllocError, Global};
 
-/// The state of the neighbour of the number; Closed where there is none.
-fn state_at(neighbours: &Neighbours, index: usize) -> State
-    ensures { result ≡ peer_state (peer_at neighbours.now.peers index) }
-{
-    match neighbours.state_of(index) {
-        Some(state) => state,
-        None => State::Closed,
-    }
-}
-
-/// The state of the neighbour whose an event is; Closed where it is of none.
-pub(crate) fn state_of(neighbours: &Neighbours, who: Option<usize>) -> State
-    ensures told { (policy : Policy) (e : OneEvent) (i : ℕ) → IsWhose policy neighbours.now.peers e who
-        → Concerns policy neighbours.now.peers e i → result ≡ peer_state (peer_at neighbours.now.peers i) }
-    ensures nobody { (policy : Policy) (e : OneEvent) → IsWhose policy neighbours.now.peers e who
-        → ((i : ℕ) → Concerns policy neighbours.now.peers e i → ⊥) → result ≡ Closed }
-{
-    neighbours_are_apart(neighbours);
-    one_is_concerned();
-    match who {
-        Some(index) => state_at(neighbours, index),
-        None => State::Closed,
-    }
-}
-
-/// What the neighbour holds whose an event is; nothing where it is of none.
-pub(crate) fn held_by(neighbours: &Neighbours, who: Option<usize>) -> Holding
-    ensures told { (policy : Policy) (e : OneEvent) (i : ℕ) → IsWhose policy neighbours.now.peers e who
-        → Concerns policy neighbours.now.peers e i → (c : Conn) → has result c ≡ holds_at neighbours.now.peers c i }
-    ensures nobody { (policy : Policy) (e : OneEvent) → IsWhose policy neighbours.now.peers e who
-        → ((i : ℕ) → Concerns policy neighbours.now.peers e i → ⊥) → (c : Conn) → has result c ≡ false }
-{
-    neighbours_are_apart(neighbours);
-    one_is_concerned();
-    match who {
-        Some(index) => neighbours.holding(index),
-        None => Holding {
-            initiated: None,
-            accepted: None,
-        },
-    }
-}
-
 /// A copy of the octets, where they are a CER or CEA and are told in a state that isn't open, and room for a neighbour
 /// more then; else no octets.
-pub(crate) fn copied(
+pub(crate) fn copy_exchange(
     alloc: Global,
     known: &mut Acquaintances,
     before: State,
@@ -88,7 +35,7 @@ pub(crate) fn copied(
 }
 
 /// What is known behind what came on the connection, of the neighbour of the number that was told it, if one was.
-pub(crate) fn meet(
+pub(crate) fn meet_behind(
     neighbours: &Neighbours,
     known: &mut Acquaintances,
     who: Option<usize>,
@@ -97,7 +44,7 @@ pub(crate) fn meet(
     before: State,
 )
     requires { (i : ℕ) → who ≡ Some i → nat_lt i (length (known_of known.old)) ≡ false → HasSparePlace known.old }
-    ensures met { (i : ℕ) (q : OnePeer) → who ≡ Some i → peer_at neighbours.now.peers i ≡ Some q → known_of known.new
+    ensures met { (i : ℕ) (q : OnePeer) → who ≡ Some i → peer_at neighbours.now i ≡ Some q → known_of known.new
         ≡ with_known i (known_if_any exchange conn before q) (given_place i (known_of known.old)) }
     ensures unmet { who ≡ None → known_of known.new ≡ known_of known.old }
 {
@@ -116,7 +63,7 @@ pub(crate) fn meet_after(
     who: Option<usize>,
     before: State,
 )
-    ensures met { (i : ℕ) (q : OnePeer) → who ≡ Some i → peer_at neighbours.now.peers i ≡ Some q → known_of known.new
+    ensures met { (i : ℕ) (q : OnePeer) → who ≡ Some i → peer_at neighbours.now i ≡ Some q → known_of known.new
         ≡ with_known i (known_after before q) (known_of known.old) }
     ensures unmet { who ≡ None → known_of known.new ≡ known_of known.old }
 {

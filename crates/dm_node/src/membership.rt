@@ -1,9 +1,8 @@
 //! Neighbours that come, go, or begin anew, with the connections that they hold.
-ghost use Rattle.std.specs.Prelude.{◌≡◌, ◌⊎◌, ◌↔◌, ◌++◌, ℕ, true, false, Option, None, Some, length, is_some};
+ghost use Rattle.std.specs.Prelude.{◌≡◌, ◌⊎◌, ◌↔◌, ◌++◌, ℕ, true, Option, None, Some, length, is_some};
 ghost use Rattle.std.specs.Prelude.{IsErrOf, OnOk, OnErr, IfOk, IfErr, ◌<◌, if◌then◌else◌};
 ghost use Rattle.dm_machine.specs.declared.connection.Conn.{Conn};
 ghost use Rattle.dm_node.specs.Adding.{with_new};
-ghost use Rattle.dm_node.specs.Emptying.{with_set_back, all_set_back};
 ghost use Rattle.dm_node.specs.Holding.{peer_at, holds_it, holds_at, IsKnown};
 ghost use Rattle.dm_node.specs.declared.fault.AddFault.TheVariants as add_faults;
 ghost use Rattle.dm_peer.specs.Places.{is_on};
@@ -13,18 +12,15 @@ ghost use Rattle.dm_node.specs.Owning.{has};
 ghost use Rattle.dm_node.specs.NodeOrders.{left_by_peer, close_if_any, closes_of_any};
 ghost use Rattle.dm_node.specs.declared.answer.Told.TheVariants.{Nothing};
 ghost use Rattle.dm_node.specs.NodeOrders.{node_set_back, node_closed, node_without};
-ghost use Rattle.dm_node.specs.NodeHeld.{AreKept};
 ghost use Rattle.dm_node.specs.NodeKnown.{known_of, with_nobody, without_known};
 ghost use Rattle.dm_node.specs.NodeSeen.{node_state_of, node_known_of};
 ghost use Rattle.dm_node.specs.NodeStates.{with_node_peers};
 
 use crate::known::Acquaintances;
-use crate::neighbours::{Neighbours, neighbours_are_apart};
+use crate::neighbours::{Neighbours, neighbours_are_sound};
 use crate::owners::Holding;
-use crate::telling::look_at;
 use crate::{AddFault, Answer, Node};
 use dm_machine::Conn;
-use dm_peer::laws::{each_event_keeps_settled, each_send_is_spelled};
 use dm_peer::{Action, Actions, Config};
 use dm_slots::Slots;
 
@@ -61,31 +57,9 @@ fn push_close(actions: &mut Actions, conn: Option<Conn>)
     }
 }
 
-/// Adds a closed neighbour of this configuration, for whom there is a place.
-fn add_kept(neighbours: &mut Neighbours, config: Config) -> Result<usize, AddFault>
-    requires kept { AreKept neighbours.old.peers }
-    ensures number { IfOk result (λ i. i ≡ length neighbours.old.peers) }
-    ensures added { OnOk result (neighbours.new.peers ≡ with_new neighbours.old.peers config) }
-    ensures known { IsErrOf result add_faults.Known ↔ IsKnown neighbours.old.peers config.peer }
-    ensures refuses { IfErr result (λ f. (f ≡ add_faults.Known) ⊎ (f ≡ add_faults.NoMemory)) }
-    ensures unchanged { OnErr result (neighbours.new.peers ≡ neighbours.old.peers) }
-    ensures node { neighbours.new.node ≡ neighbours.old.node }
-    ensures kept { AreKept neighbours.new.peers }
-    ensures held { (c : Conn) (j : ℕ) → holds_at neighbours.new.peers c j ≡ true
-        → holds_at neighbours.old.peers c j ≡ true }
-{
-    match neighbours.add(config) {
-        Ok(index) => {
-            look_at(neighbours, Some(index));
-            Ok(index)
-        }
-        Err(fault) => Err(fault),
-    }
-}
-
 /// Why no neighbour of this configuration can be added where memory is wanted for it.
-fn fault_of(neighbours: &Neighbours, config: &Config) -> AddFault
-    ensures known { (result ≡ add_faults.Known) ↔ IsKnown neighbours.now.peers config.now.peer }
+fn add_fault(neighbours: &Neighbours, config: &Config) -> AddFault
+    ensures known { (result ≡ add_faults.Known) ↔ IsKnown neighbours.now config.now.peer }
     ensures refuses { (result ≡ add_faults.Known) ⊎ (result ≡ add_faults.NoMemory) }
 {
     match neighbours.find(config.peer_host()) {
@@ -100,53 +74,26 @@ fn add_neighbour(
     known: &mut Acquaintances,
     config: Config,
 ) -> Result<usize, AddFault>
-    requires kept { AreKept neighbours.old.peers }
-    ensures number { IfOk result (λ i. i ≡ length neighbours.old.peers) }
-    ensures added { OnOk result (neighbours.new.peers ≡ with_new neighbours.old.peers config) }
-    ensures known { IsErrOf result add_faults.Known ↔ IsKnown neighbours.old.peers config.peer }
+    ensures number { IfOk result (λ i. i ≡ length neighbours.old) }
+    ensures added { OnOk result (neighbours.new ≡ with_new neighbours.old config) }
+    ensures known { IsErrOf result add_faults.Known ↔ IsKnown neighbours.old config.peer }
     ensures refuses { IfErr result (λ f. (f ≡ add_faults.Known) ⊎ (f ≡ add_faults.NoMemory)) }
-    ensures unchanged { OnErr result (neighbours.new.peers ≡ neighbours.old.peers) }
-    ensures node { neighbours.new.node ≡ neighbours.old.node }
-    ensures kept { AreKept neighbours.new.peers }
-    ensures held { (c : Conn) (j : ℕ) → holds_at neighbours.new.peers c j ≡ true
-        → holds_at neighbours.old.peers c j ≡ true }
+    ensures unchanged { OnErr result (neighbours.new ≡ neighbours.old) }
+    ensures held { (c : Conn) (j : ℕ) → holds_at neighbours.new c j ≡ true
+        → holds_at neighbours.old c j ≡ true }
     ensures unmet { OnOk result (known_of known.new ≡ with_nobody (known_of known.old)) }
     ensures same { OnErr result (known_of known.new ≡ known_of known.old) }
 {
     match known.reserve() {
-        Ok(()) => match add_kept(neighbours, config) {
+        Ok(()) => match neighbours.add(config) {
             Ok(index) => {
                 known.push();
                 Ok(index)
             }
             Err(fault) => Err(fault),
         },
-        Err(_) => Err(fault_of(neighbours, &config)),
+        Err(_) => Err(add_fault(neighbours, &config)),
     }
-}
-
-/// Sets the neighbour of the number back to Closed, where there is one.
-fn reset_neighbour(neighbours: &mut Neighbours, index: usize)
-    requires kept { AreKept neighbours.old.peers }
-    ensures back { neighbours.new.peers ≡ with_set_back neighbours.old.peers index }
-    ensures node { neighbours.new.node ≡ neighbours.old.node }
-    ensures kept { AreKept neighbours.new.peers }
-{
-    neighbours.reset(index);
-    look_at(neighbours, Some(index));
-}
-
-/// Sets each neighbour back to Closed.
-fn reset_neighbours(neighbours: &mut Neighbours)
-    requires kept { AreKept neighbours.old.peers }
-    ensures back { neighbours.new.peers ≡ all_set_back neighbours.old.peers }
-    ensures node { neighbours.new.node ≡ neighbours.old.node }
-    ensures kept { AreKept neighbours.new.peers }
-    ensures free { (c : Conn) (j : ℕ) → holds_at neighbours.new.peers c j ≡ false }
-{
-    each_event_keeps_settled();
-    each_send_is_spelled();
-    neighbours.reset_all();
 }
 
 impl Node {
@@ -184,7 +131,7 @@ impl Node {
         ensures without { node_state_of self.new ≡ node_without index (node_state_of self.old) }
         ensures forgotten { node_known_of self.new ≡ without_known (node_known_of self.old) index }
     {
-        neighbours_are_apart(&self.neighbours);
+        neighbours_are_sound(&self.neighbours);
         answer.clear();
         let held = self.neighbours.holding(index);
         let gone = self.neighbours.remove(index);
@@ -206,9 +153,9 @@ impl Node {
         ensures back { node_state_of self.new ≡ node_set_back index (node_state_of self.old) }
         ensures known { node_known_of self.new ≡ node_known_of self.old }
     {
-        neighbours_are_apart(&self.neighbours);
+        neighbours_are_sound(&self.neighbours);
         let held = self.neighbours.holding(index);
-        reset_neighbour(&mut self.neighbours, index);
+        self.neighbours.set_back(index);
         shut_held(&mut self.intakes, held);
     }
 
@@ -217,7 +164,7 @@ impl Node {
         ensures back { node_state_of self.new ≡ node_closed (node_state_of self.old) }
         ensures known { node_known_of self.new ≡ node_known_of self.old }
     {
-        reset_neighbours(&mut self.neighbours);
+        self.neighbours.set_back_all();
         self.intakes.clear();
     }
 }

@@ -1,109 +1,139 @@
-//! Neighbours: a peer for each, and what each event does.
+//! Neighbours: a peer for each, with what finds one by its host.
 ghost use Rattle.dm_node.specs.Neighbourhoods.{IsNeighbourhood};
+ghost use Rattle.dm_node.specs.NodeHeld.{AreKept};
 
+use crate::AddFault;
+use crate::adding::make_room;
+use crate::counting::{one_less, one_more};
+use crate::emptying::{set_back_at, set_back_each, take_at};
+use crate::hosts::Hosts;
 use crate::looking::peer_at;
-use crate::one_told::tell_one_into;
-use crate::owners::{Holding, holding_at};
-use crate::roster::Roster;
-use crate::routing::whose;
-use crate::unknown::tell_unknown;
-use crate::{AddFault, Answer, NodeEvent, OrderFault, Strangers};
-use dm_base::Node;
+use crate::owners::{Before, Holding, holding_of_any};
+use dm_peer::laws::{each_event_keeps_settled, each_send_is_spelled, every_peer_is_kept};
 use dm_peer::{Config, Conn, Peer, State};
-use dm_slots::Slots;
 use std::alloc::Global;
 use std::marker::Model;
 use std::slice;
 
-/// The neighbours of a node, each a peer of its own (RFC 6733, 5.6). A neighbour has the number of its adding, from 0.
-///
-/// A contract sees them as a list in order of adding, beside the node that answers strangers.
+/// The neighbours of a node, each a peer of its own (RFC 6733, 5.6), in order of adding: a neighbour has the number of
+/// its adding, from 0, and its place stays empty where it was removed.
 #[derive(Drop)]
 pub(crate) struct Neighbours {
-    pub(crate) node: Node,
-    pub(crate) roster: Roster,
+    pub(crate) peers: Vec<Option<Peer>>,
+    hosts: Hosts,
+    /// How many neighbours there are.
+    present: usize,
 }
 
 impl Model for Neighbours {
-    ghost use Rattle.dm_node.specs.Neighbourhoods.{Neighbourhood};
+    ghost use Rattle.std.specs.Prelude.{Option, List};
+    ghost use Rattle.dm_peer.specs.declared.peer.Peer.{Peer};
     ghost use Rattle.dm_node.specs.Rosters.{IsRoster};
 
-    ghost Value = { Neighbourhood };
+    ghost Value = { List (Option Peer) };
 
-    ghost view = { λ n. record { node = n.node; peers = n.roster.peers.items } };
+    ghost view = { λ n. n.peers.items };
 
-    ghost invariant = { λ n. IsRoster n.roster };
+    ghost invariant = { λ n. IsRoster n.peers.items n.hosts n.present };
 }
 
 impl Neighbours {
-    ghost use Rattle.std.specs.Prelude.{◌≡◌, ◌⊎◌, ◌↔◌, ◌++◌, ℕ, All, [], Option, Some, Err, length};
-    ghost use Rattle.std.specs.Prelude.{IfOk, IfErr, IsErrOf, OnOk, OnErr, IfSome, IfNone, option_map};
+    ghost use Rattle.std.specs.Prelude.{◌≡◌, ◌⊎◌, ◌↔◌, ◌++◌, ◌∷◌, [], ℕ, true, false, Option, Some, length};
+    ghost use Rattle.std.specs.Prelude.{IfOk, IfErr, IsErrOf, OnOk, OnErr, IfSome, IfNone, IsSome, option_map};
     ghost use Rattle.std.specs.Option.{option_copied};
     ghost use Rattle.std.specs.Slice.Iter.{iter_rest};
     ghost use Rattle.std.specs.Iterator.Adapters.{IterYieldsInOrder};
     ghost use Rattle.dm_base.specs.Before.{lower};
     ghost use Rattle.dm_machine.specs.declared.connection.Conn.{Conn};
-    ghost use Rattle.dm_peer.specs.Spelled.{SendsSpelling};
     ghost use Rattle.dm_peer.specs.declared.peer.Peer.{Peer};
     ghost use Rattle.dm_node.specs.Adding.{with_new};
-    ghost use Rattle.dm_node.specs.Declining.{GoesByRule};
     ghost use Rattle.dm_node.specs.Emptying.{without_peer, with_set_back, all_set_back};
-    ghost use Rattle.dm_node.specs.Holding.{peer_at, host_at, holds_at, IsKnown};
+    ghost use Rattle.dm_node.specs.Holding.{peer_at, host_at, holds, holds_it, holds_at, IsKnown};
+    ghost use Rattle.dm_node.specs.NodeKnown.{peer_state};
+    ghost use Rattle.dm_node.specs.NodeStates.{concerned_in};
     ghost use Rattle.dm_node.specs.NodeOrders.{close_if_any, closes_of_any};
-    ghost use Rattle.dm_node.specs.Owning.{has, AreOwned};
-    ghost use Rattle.dm_slots.specs.Held.{owners_of};
-    ghost use Rattle.dm_node.specs.Strangers.{NodeIsTold};
-    ghost use Rattle.dm_node.specs.Telling.{IsWhose, IsMisdirected, IsRefusedHere, StartsFree};
+    ghost use Rattle.dm_node.specs.Owning.{has};
+    ghost use Rattle.dm_node.specs.Strangers.{present};
     ghost use Rattle.dm_node.specs.declared.fault.AddFault.TheVariants.{Known, NoMemory};
-    ghost use Rattle.dm_node.specs.declared.fault.OrderFault.{OrderFault};
 
-    /// No neighbours. The node answers strangers. It never answers want of memory.
-    pub(crate) fn new(alloc: Global, node: Node) -> Neighbours
-        ensures node { result.node ≡ node }
-        ensures empty { result.peers ≡ [] }
+    /// No neighbours. It never answers want of memory.
+    pub(crate) fn new(alloc: Global) -> Neighbours
+        ensures { result ≡ [] }
     {
         Neighbours {
-            node,
-            roster: Roster::new(alloc),
+            peers: Vec::new(alloc),
+            hosts: Hosts::new(alloc),
+            present: 0,
         }
     }
 
-    /// Adds a closed neighbour of this configuration, and answers its number.
+    /// Puts a peer behind the others, of which none holds a connection of its, and answers its number.
     ///
     /// # Errors
     /// `Known` just where a neighbour has its host, upper and lower case taken as one, whatever memory there is; else
-    /// `NoMemory`. The neighbours are as they were after each, and the configuration is dropped.
-    pub(crate) fn add(&mut self, config: Config) -> Result<usize, AddFault>
-        ensures number { IfOk result (λ i. i ≡ length self.old.peers) }
-        ensures added { OnOk result (self.new.peers ≡ with_new self.old.peers config) }
-        ensures known { IsErrOf result Known ↔ IsKnown self.old.peers config.peer }
+    /// `NoMemory`. The neighbours are as they were after each, and the peer is dropped.
+    pub(crate) fn insert(&mut self, peer: Peer) -> Result<usize, AddFault>
+        requires { (c : Conn) (j : ℕ) → holds c peer ≡ true → holds_at self.old c j ≡ false }
+        ensures number { IfOk result (λ i. i ≡ length self.old) }
+        ensures added { OnOk result (self.new ≡ self.old ++ Some peer ∷ []) }
+        ensures known { IsErrOf result Known ↔ IsKnown self.old peer.config.peer }
         ensures refuses { IfErr result (λ f. (f ≡ Known) ⊎ (f ≡ NoMemory)) }
-        ensures unchanged { OnErr result (self.new.peers ≡ self.old.peers) }
-        ensures node { self.new.node ≡ self.old.node }
+        ensures unchanged { OnErr result (self.new ≡ self.old) }
     {
-        self.roster.put(config)
+        every_peer_is_kept(&peer);
+        let index = self.peers.len();
+        match make_room(&mut self.peers, &mut self.hosts, peer.config()) {
+            Ok(()) => {
+                self.peers.push_reserved(Some(peer));
+                self.present = one_more(&self.peers, self.present);
+                Ok(index)
+            }
+            Err(fault) => Err(fault),
+        }
+    }
+
+    /// Puts a closed peer of this configuration behind the others, and answers its number.
+    ///
+    /// # Errors
+    /// Those of [`insert`](Neighbours::insert).
+    pub(crate) fn add(&mut self, config: Config) -> Result<usize, AddFault>
+        ensures number { IfOk result (λ i. i ≡ length self.old) }
+        ensures added { OnOk result (self.new ≡ with_new self.old config) }
+        ensures known { IsErrOf result Known ↔ IsKnown self.old config.peer }
+        ensures refuses { IfErr result (λ f. (f ≡ Known) ⊎ (f ≡ NoMemory)) }
+        ensures unchanged { OnErr result (self.new ≡ self.old) }
+    {
+        self.insert(Peer::new(config))
     }
 
     /// The number of the neighbour of this host, upper and lower case taken as one. It never answers want of memory.
     pub(crate) fn find(&self, host: &[u8]) -> Option<usize>
-        ensures found { IfSome result (λ i. host_at self.now.peers i ≡ Some (lower host.now)) }
-        ensures none { IfNone result ((j : ℕ) → host_at self.now.peers j ≡ Some (lower host.now) → ⊥) }
+        ensures there { IfSome result (λ i. IsSome (peer_at self.now i)) }
+        ensures found { IfSome result (λ i. host_at self.now i ≡ Some (lower host.now)) }
+        ensures none { IfNone result ((j : ℕ) → host_at self.now j ≡ Some (lower host.now) → ⊥) }
     {
-        self.roster.named(host)
+        self.hosts.number(host)
+    }
+
+    /// How many neighbours there are, with no walk over them. It never answers want of memory.
+    pub(crate) fn count(&self) -> usize
+        ensures { result ≡ present self.now }
+    {
+        self.present
     }
 
     /// The neighbour of this number. It never answers want of memory.
     pub(crate) fn peer(&self, index: usize) -> Option<&Peer>
-        ensures { option_copied result ≡ peer_at self.now.peers index }
+        ensures { option_copied result ≡ peer_at self.now index }
     {
-        peer_at(&self.roster.peers, index)
+        peer_at(&self.peers, index)
     }
 
     /// The state of the neighbour of this number. It never answers want of memory.
     pub(crate) fn state_of(&self, index: usize) -> Option<State>
-        ensures { result ≡ option_map (λ p. p.standing.core.state) (peer_at self.now.peers index) }
+        ensures { result ≡ option_map (λ p. p.standing.core.state) (peer_at self.now index) }
     {
-        match peer_at(&self.roster.peers, index) {
+        match self.peer(index) {
             Some(peer) => Some(peer.state()),
             None => None,
         }
@@ -111,105 +141,88 @@ impl Neighbours {
 
     /// The neighbours in order of adding. It never answers want of memory.
     pub(crate) fn iter(&self) -> slice::Iter<'_, Option<Peer>>
-        ensures rest { iter_rest result ≡ self.now.peers }
+        ensures rest { iter_rest result ≡ self.now }
         ensures runs { IterYieldsInOrder (Option Peer) }
     {
-        self.roster.peers.as_slice().iter()
+        self.peers.as_slice().iter()
     }
 
     /// What the neighbour of this number holds, where there is one. It never answers want of memory.
     pub(crate) fn holding(&self, index: usize) -> Holding
-        ensures holds { (c : Conn) → has result c ≡ holds_at self.now.peers c index }
+        ensures holds { (c : Conn) → has result c ≡ holds_at self.now c index }
         ensures closes { close_if_any result.initiated ++ close_if_any result.accepted
-            ≡ closes_of_any (peer_at self.now.peers index) }
+            ≡ closes_of_any (peer_at self.now index) }
     {
-        holding_at(&self.roster.peers, index)
+        holding_of_any(self.peer(index))
+    }
+
+    /// The neighbour whose an event is, where it is of one. It never answers want of memory.
+    pub(crate) fn concerned(&self, who: Option<usize>) -> Option<&Peer>
+        ensures { option_copied result ≡ concerned_in self.now who }
+    {
+        match who {
+            Some(index) => self.peer(index),
+            None => None,
+        }
+    }
+
+    /// What the neighbour is whose an event is; Closed, with nothing held, where it is of none. It never answers want
+    /// of memory.
+    pub(crate) fn before(&self, who: Option<usize>) -> Before
+        ensures state { result.state ≡ peer_state (concerned_in self.now who) }
+        ensures held { (c : Conn) → has result.held c ≡ holds_it c (concerned_in self.now who) }
+    {
+        let peer = self.concerned(who);
+        let held = holding_of_any(peer);
+        match peer {
+            Some(peer) => Before {
+                state: peer.state(),
+                held,
+            },
+            None => Before {
+                state: State::Closed,
+                held,
+            },
+        }
     }
 
     /// Takes the neighbour of this number out.
     /// Its number stays unused, and the others keep theirs. The peer is handed back as it was, so that what it holds
     /// can be closed. It never answers want of memory.
     pub(crate) fn remove(&mut self, index: usize) -> Option<Peer>
-        ensures gone { result ≡ peer_at self.old.peers index }
-        ensures without { self.new.peers ≡ without_peer self.old.peers index }
-        ensures node { self.new.node ≡ self.old.node }
+        ensures gone { result ≡ peer_at self.old index }
+        ensures without { self.new ≡ without_peer self.old index }
     {
-        self.roster.take(index)
+        let gone = take_at(&mut self.peers, index);
+        self.hosts.forget_gone(&gone);
+        self.present = one_less(&gone, self.present);
+        gone
     }
 
-    /// Sets the neighbour of this number back to Closed, where there is one. It never
-    /// answers want of memory.
-    pub(crate) fn reset(&mut self, index: usize)
-        ensures back { self.new.peers ≡ with_set_back self.old.peers index }
-        ensures node { self.new.node ≡ self.old.node }
+    /// Sets the neighbour of this number back to Closed, where there is one. It never answers want of memory.
+    pub(crate) fn set_back(&mut self, index: usize)
+        ensures { self.new ≡ with_set_back self.old index }
     {
-        self.roster.set_back(index)
+        each_event_keeps_settled();
+        each_send_is_spelled();
+        set_back_at(&mut self.peers, index);
     }
 
     /// Sets each neighbour back to Closed. It never answers want of memory.
-    pub(crate) fn reset_all(&mut self)
-        ensures back { self.new.peers ≡ all_set_back self.old.peers }
-        ensures node { self.new.node ≡ self.old.node }
+    pub(crate) fn set_back_all(&mut self)
+        ensures { self.new ≡ all_set_back self.old }
     {
-        self.roster.set_back_all()
-    }
-
-    /// Whose the event is: of one neighbour, or of none. It never answers want of memory.
-    #[inline(always)]
-    pub(crate) fn whose<S: Strangers>(
-        &self,
-        slots: &Slots,
-        strangers: &S,
-        event: NodeEvent<'_>,
-    ) -> Result<Option<usize>, OrderFault>
-        requires owned { AreOwned (owners_of slots.now) self.now.peers }
-        requires free { StartsFree self.now.peers event }
-        ensures whose { IfOk result (IsWhose (S.policy strangers.now) self.now.peers event.entry) }
-        ensures fault { IfErr result (IsMisdirected self.now.peers event.entry) }
-        ensures misdirected { (f : OrderFault) → IsMisdirected self.now.peers event.entry f → result ≡ Err f }
-    {
-        whose(&self.roster, slots, strangers, event)
-    }
-
-    /// What the node does at the event, which is of this neighbour, or of none, put into `answer`, whose actions are
-    /// none before.
-    #[inline(always)]
-    pub(crate) fn tell_whose<S: Strangers>(
-        &mut self,
-        alloc: Global,
-        strangers: &S,
-        who: Option<usize>,
-        event: NodeEvent<'_>,
-        answer: &mut Answer,
-    ) -> Result<(), OrderFault>
-        requires whose { IsWhose (S.policy strangers.now) self.old.peers event who }
-        requires none { answer.old.actions.items ≡ [] }
-        ensures told { OnOk result (NodeIsTold (S.policy strangers.now) event.entry self.old.node self.old.peers
-            answer.new.neighbour answer.new.actions.items self.new.peers) }
-        ensures refused { IfErr result (IsRefusedHere (S.policy strangers.now) self.old.peers event.entry) }
-        ensures rules { GoesByRule (S.policy strangers.now) self.old.peers event.entry result }
-        ensures unchanged { OnErr result (self.new.peers ≡ self.old.peers) }
-        ensures node { self.new.node ≡ self.old.node }
-        ensures spelled { OnOk result (All SendsSpelling answer.new.actions.items) }
-    {
-        match who {
-            Some(index) => tell_one_into(alloc, &mut self.roster, index, event, answer),
-            None => tell_unknown(
-                alloc,
-                &self.node,
-                &mut self.roster,
-                strangers,
-                event,
-                answer,
-            ),
-        }
+        each_event_keeps_settled();
+        each_send_is_spelled();
+        set_back_each(&mut self.peers);
     }
 }
 
-/// No connection is held by two neighbours, and no two have one host, upper and lower case taken as one; whatever the
-/// node was told.
-pub(crate) fn neighbours_are_apart(neighbours: &Neighbours)
-    ensures { IsNeighbourhood neighbours.now.peers }
+/// No connection is held by two neighbours, no two have one host, upper and lower case taken as one, and each is what
+/// events make of a new peer; whatever the node was told.
+pub(crate) fn neighbours_are_sound(neighbours: &Neighbours)
+    ensures apart { IsNeighbourhood neighbours.now }
+    ensures kept { AreKept neighbours.now }
 {
-    let _count = neighbours.roster.peers.len();
+    let _count = neighbours.peers.len();
 }

@@ -1,8 +1,7 @@
 //! A node with its neighbours and connections.
-ghost use Rattle.std.proofs.Props.{props};
 ghost use Rattle.dm_slots.specs.Held.{intakes_of, owners_of};
 ghost use Rattle.dm_node.specs.Owning.{AreOwned};
-ghost use Rattle.dm_node.specs.NodeHeld.{AllHeldAreThere, AreKept};
+ghost use Rattle.dm_node.specs.NodeHeld.{AllHeldAreThere};
 ghost use Rattle.dm_node.specs.NodeKnown.{known_of, AreKnown};
 
 use crate::known::Acquaintances;
@@ -22,15 +21,15 @@ use std::slice;
 /// What holds of each is said by `laws::held_are_there`.
 #[derive(Drop)]
 pub struct Node {
+    pub(crate) own: dm_base::Node,
     pub(crate) neighbours: Neighbours,
     pub(crate) known: Acquaintances,
     pub(crate) intakes: Slots,
     pub(crate) first_max: u32,
     pub(crate) most: u32,
-    ghost held: { AllHeldAreThere neighbours.peers (intakes_of intakes) },
-    ghost owned: { AreOwned (owners_of intakes) neighbours.peers },
-    ghost kept: { AreKept neighbours.peers } by { Prim.hlevel props },
-    ghost met: { AreKnown neighbours.peers (known_of known) },
+    ghost held: { AllHeldAreThere neighbours (intakes_of intakes) },
+    ghost owned: { AreOwned (owners_of intakes) neighbours },
+    ghost met: { AreKnown neighbours (known_of known) },
 }
 
 impl Node {
@@ -66,7 +65,8 @@ impl Node {
         ensures nobody { node_known_of result ≡ [] }
     {
         Node {
-            neighbours: Neighbours::new(alloc, node),
+            own: node,
+            neighbours: Neighbours::new(alloc),
             known: Acquaintances::new(alloc),
             intakes: Slots::new(alloc),
             first_max,
@@ -218,6 +218,7 @@ impl Node {
         let event = NodeEvent::Arrived(conn, &[]);
         match tell_event(
             alloc,
+            &self.own,
             &mut self.neighbours,
             &mut self.known,
             &self.intakes,
@@ -293,6 +294,7 @@ impl Node {
             Front::Nothing => Ok(()),
             Front::Message(message) => match tell_message(
                 alloc,
+                &self.own,
                 &mut self.neighbours,
                 &mut self.known,
                 &self.intakes,

@@ -3,13 +3,12 @@ ghost use Rattle.std.specs.Prelude.{ℕ, IfSome, IfNone, IfOk, OnErr, IsSome};
 ghost use Rattle.dm_machine.specs.declared.connection.Conn.{Conn};
 ghost use Rattle.dm_node.specs.Calling.{caller_of};
 ghost use Rattle.dm_node.specs.Policies.{IsMadeFor, IsUnfit, MakesFor, MakesNoneFor};
-ghost use Rattle.dm_node.specs.Rosters.{IsRoster};
 ghost use Rattle.dm_node.specs.Strangers.{IsPermitted, IsForbidden};
 ghost use Rattle.dm_node.specs.Telling.{IsAddressed};
 
 use crate::Strangers;
 use crate::calling::caller;
-use crate::roster::Roster;
+use crate::neighbours::Neighbours;
 use dm_dict::NoMemory;
 use dm_peer::{Config, ConfigFault};
 use std::alloc::Global;
@@ -41,24 +40,23 @@ fn made_by<S: Strangers>(
     }
 }
 
-/// A configuration for the host whose CER the octets are, where they concern no neighbour and there may be one more.
+/// A configuration for the host whose CER the octets are, which concern no neighbour, where there may be one more.
 pub(crate) fn offered<S: Strangers>(
     alloc: Global,
-    roster: &Roster,
+    neighbours: &Neighbours,
     strangers: &S,
     octets: &[u8],
 ) -> Result<Option<Config>, NoMemory>
-    requires { IsRoster roster.now }
     ensures offered { IfOk result (λ o. IfSome o (λ config. (c : Conn)
-        → ((i : ℕ) → IsAddressed (S.policy strangers.now) roster.now.peers.items c octets.now i → ⊥)
-        → IsPermitted (S.policy strangers.now) roster.now.peers.items c octets.now config)) }
+        → ((i : ℕ) → IsAddressed (S.policy strangers.now) neighbours.now c octets.now i → ⊥)
+        → IsPermitted (S.policy strangers.now) neighbours.now c octets.now config)) }
     ensures none { IfOk result (λ o. IfNone o ((c : Conn)
-        → IsForbidden (S.policy strangers.now) roster.now.peers.items c octets.now)) }
+        → IsForbidden (S.policy strangers.now) neighbours.now c octets.now)) }
     ensures memory { OnErr result (IsSome (caller_of octets.now)) }
 {
     match caller(octets) {
         Some((_, host)) => {
-            if roster.count() < strangers.most() {
+            if neighbours.count() < strangers.most() {
                 made_by(alloc, strangers, host)
             } else {
                 Ok(None)

@@ -1,7 +1,8 @@
 //! What a neighbour holds, and whose each connection is.
 ghost use Rattle.std.specs.Prelude.{◌≡◌, ◌++◌, true, List, Option};
 ghost use Rattle.dm_machine.specs.declared.connection.Conn.{Conn};
-ghost use Rattle.dm_node.specs.Holding.{peer_at, holds, holds_at};
+ghost use Rattle.std.specs.Option.{option_copied};
+ghost use Rattle.dm_node.specs.Holding.{holds, holds_it};
 ghost use Rattle.dm_node.specs.NodeOrders.{close_if_any, closes_of_any};
 ghost use Rattle.dm_node.specs.NodeHeld.{AllHeldAreThere};
 ghost use Rattle.dm_node.specs.Owning.{has, owned_after, AreOwned, IsReowned};
@@ -10,10 +11,9 @@ ghost use Rattle.dm_slots.specs.Intakes.{is_there};
 ghost use Rattle.dm_peer.specs.declared.peer.Peer.{Peer};
 ghost use Rattle.dm_slots.specs.Raised.{own_of, other_of};
 
-use crate::looking::peer_at;
-use crate::neighbours::{Neighbours, neighbours_are_apart};
+use crate::neighbours::{Neighbours, neighbours_are_sound};
 use dm_machine::laws::each_node_has_its_form;
-use dm_peer::{Conn, Peer};
+use dm_peer::{Conn, Peer, State};
 use dm_slots::Slots;
 
 /// The connections that a peer holds.
@@ -23,8 +23,15 @@ pub(crate) struct Holding {
     pub(crate) accepted: Option<Conn>,
 }
 
+/// What a neighbour was before an event: its state, and what it held.
+#[derive(Clone, Copy)]
+pub(crate) struct Before {
+    pub(crate) state: State,
+    pub(crate) held: Holding,
+}
+
 /// Whether both are the same connection, or none.
-fn is_same(one: Option<Conn>, other: Option<Conn>) -> bool
+fn is_same_conn(one: Option<Conn>, other: Option<Conn>) -> bool
     ensures { result ≡ true → one ≡ other }
 {
     match (one, other) {
@@ -38,7 +45,7 @@ fn is_same(one: Option<Conn>, other: Option<Conn>) -> bool
 fn is_unchanged(before: Holding, after: Holding) -> bool
     ensures { result ≡ true → before ≡ after }
 {
-    is_same(before.initiated, after.initiated) && is_same(before.accepted, after.accepted)
+    is_same_conn(before.initiated, after.initiated) && is_same_conn(before.accepted, after.accepted)
 }
 
 /// What the peer holds.
@@ -55,13 +62,13 @@ fn holding_of(peer: &Peer) -> Holding
     }
 }
 
-/// What the neighbour of the number holds, where there is one.
-pub(crate) fn holding_at(peers: &[Option<Peer>], index: usize) -> Holding
-    ensures holds { (c : Conn) → has result c ≡ holds_at peers.now c index }
+/// What a neighbour holds, where there is one.
+pub(crate) fn holding_of_any(peer: Option<&Peer>) -> Holding
+    ensures holds { (c : Conn) → has result c ≡ holds_it c (option_copied peer.entry) }
     ensures closes { close_if_any result.initiated ++ close_if_any result.accepted
-        ≡ closes_of_any (peer_at peers.now index) }
+        ≡ closes_of_any (option_copied peer.entry) }
 {
-    match peer_at(peers, index) {
+    match peer {
         Some(peer) => holding_of(peer),
         None => Holding {
             initiated: None,
@@ -71,7 +78,7 @@ pub(crate) fn holding_at(peers: &[Option<Peer>], index: usize) -> Holding
 }
 
 /// What was held before is nobody's, and what is held is of the neighbour of the number.
-fn change(slots: &mut Slots, before: Holding, after: Holding, index: usize)
+fn change_owners(slots: &mut Slots, before: Holding, after: Holding, index: usize)
     requires there { (c : Conn) → has after c ≡ true → is_there c.0 (intakes_of slots.old) ≡ true }
     ensures intakes { intakes_of slots.new ≡ intakes_of slots.old }
     ensures owners { (c : Conn) → owners_of slots.new c.0 ≡ owned_after (owners_of slots.old) before after index c }
@@ -85,16 +92,16 @@ fn change(slots: &mut Slots, before: Holding, after: Holding, index: usize)
 /// The neighbour of the number, if one was told something, holds what it holds now, and held this before.
 #[inline(always)]
 pub(crate) fn reown(neighbours: &Neighbours, slots: &mut Slots, before: Holding, who: Option<usize>)
-    requires there { AllHeldAreThere neighbours.now.peers (intakes_of slots.old) }
+    requires there { AllHeldAreThere neighbours.now (intakes_of slots.old) }
     ensures intakes { intakes_of slots.new ≡ intakes_of slots.old }
-    ensures owned { (ps : List (Option Peer)) → IsReowned ps neighbours.now.peers who before
-        → AreOwned (owners_of slots.old) ps → AreOwned (owners_of slots.new) neighbours.now.peers }
+    ensures owned { (ps : List (Option Peer)) → IsReowned ps neighbours.now who before
+        → AreOwned (owners_of slots.old) ps → AreOwned (owners_of slots.new) neighbours.now }
 {
-    neighbours_are_apart(neighbours);
+    neighbours_are_sound(neighbours);
     if let Some(index) = who {
         let after = neighbours.holding(index);
         if !is_unchanged(before, after) {
-            change(slots, before, after, index);
+            change_owners(slots, before, after, index);
         }
     }
 }

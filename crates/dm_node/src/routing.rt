@@ -2,7 +2,6 @@
 ghost use Rattle.std.specs.Prelude.{◌≡◌, ℕ, true, false, None, Some, Err, IsSome, IfOk, IfErr, IfSome, IfNone};
 ghost use Rattle.dm_node.specs.Holding.{peer_at, holds_at};
 ghost use Rattle.dm_node.specs.Owning.{AreOwned};
-ghost use Rattle.dm_node.specs.Rosters.{IsRoster};
 ghost use Rattle.dm_slots.specs.Held.{owners_of};
 ghost use Rattle.dm_node.specs.Telling.{told_of, IsCallOf, IsPorter, IsFirstFor, IsAddressed};
 ghost use Rattle.dm_node.specs.Telling.{Concerns, IsAlone, IsMisdirected, StartsFree};
@@ -11,10 +10,9 @@ ghost use Rattle.dm_node.specs.declared.fault.OrderFault.{OrderFault};
 ghost use Rattle.dm_node.specs.declared.fault.OrderFault.TheVariants.{NoNeighbour};
 
 use crate::calling::caller;
-use crate::looking::peer_at;
-use crate::roster::Roster;
+use crate::neighbours::Neighbours;
 use crate::{NodeEvent, OrderFault, Strangers};
-use dm_peer::{Conn, Event, Peer};
+use dm_peer::{Conn, Event};
 use dm_slots::Slots;
 
 /// The event as its neighbour is told it.
@@ -35,26 +33,25 @@ pub(crate) fn told_of<'a>(event: NodeEvent<'a>) -> Event<'a>
 }
 
 /// The neighbour whose host's CER the octets are.
-fn called(roster: &Roster, octets: &[u8]) -> Option<usize>
-    requires { IsRoster roster.now }
-    ensures there { IfSome result (λ i. IsSome (peer_at roster.now.peers.items i)) }
-    ensures found { IfSome result (IsCallOf roster.now.peers.items octets.now) }
-    ensures none { IfNone result ((i : ℕ) → IsCallOf roster.now.peers.items octets.now i → ⊥) }
+fn calling_neighbour(neighbours: &Neighbours, octets: &[u8]) -> Option<usize>
+    ensures there { IfSome result (λ i. IsSome (peer_at neighbours.now i)) }
+    ensures found { IfSome result (IsCallOf neighbours.now octets.now) }
+    ensures none { IfNone result ((i : ℕ) → IsCallOf neighbours.now octets.now i → ⊥) }
 {
     match caller(octets) {
-        Some((_, host)) => roster.named(host),
+        Some((_, host)) => neighbours.find(host),
         None => None,
     }
 }
 
 /// The porter, where there is to be one and it is there.
-fn porter<S: Strangers>(peers: &[Option<Peer>], strangers: &S) -> Option<usize>
-    ensures there { IfSome result (λ i. IsSome (peer_at peers.now i)) }
-    ensures found { IfSome result (IsPorter (S.policy strangers.now) peers.now) }
-    ensures none { IfNone result ((i : ℕ) → IsPorter (S.policy strangers.now) peers.now i → ⊥) }
+fn porter<S: Strangers>(neighbours: &Neighbours, strangers: &S) -> Option<usize>
+    ensures there { IfSome result (λ i. IsSome (peer_at neighbours.now i)) }
+    ensures found { IfSome result (IsPorter (S.policy strangers.now) neighbours.now) }
+    ensures none { IfNone result ((i : ℕ) → IsPorter (S.policy strangers.now) neighbours.now i → ⊥) }
 {
     match strangers.porter() {
-        Some(index) => match peer_at(peers, index) {
+        Some(index) => match neighbours.peer(index) {
             Some(_) => Some(index),
             None => None,
         },
@@ -63,57 +60,55 @@ fn porter<S: Strangers>(peers: &[Option<Peer>], strangers: &S) -> Option<usize>
 }
 
 /// The neighbour that octets on a connection that nobody holds are for.
-fn first_for<S: Strangers>(roster: &Roster, strangers: &S, octets: &[u8]) -> Option<usize>
-    requires { IsRoster roster.now }
-    ensures there { IfSome result (λ i. IsSome (peer_at roster.now.peers.items i)) }
-    ensures found { IfSome result (IsFirstFor (S.policy strangers.now) roster.now.peers.items octets.now) }
+fn first_for<S: Strangers>(neighbours: &Neighbours, strangers: &S, octets: &[u8]) -> Option<usize>
+    ensures there { IfSome result (λ i. IsSome (peer_at neighbours.now i)) }
+    ensures found { IfSome result (IsFirstFor (S.policy strangers.now) neighbours.now octets.now) }
     ensures none { IfNone result ((i : ℕ)
-        → IsFirstFor (S.policy strangers.now) roster.now.peers.items octets.now i → ⊥) }
+        → IsFirstFor (S.policy strangers.now) neighbours.now octets.now i → ⊥) }
 {
-    match called(roster, octets) {
+    match calling_neighbour(neighbours, octets) {
         Some(index) => Some(index),
-        None => porter(&roster.peers, strangers),
+        None => porter(neighbours, strangers),
     }
 }
 
 /// The neighbour that holds the connection.
-fn holder(roster: &Roster, slots: &Slots, conn: Conn) -> Option<usize>
-    requires { AreOwned (owners_of slots.now) roster.now.peers.items }
-    ensures there { IfSome result (λ i. IsSome (peer_at roster.now.peers.items i)) }
-    ensures found { IfSome result (λ i. holds_at roster.now.peers.items conn i ≡ true) }
-    ensures none { IfNone result ((j : ℕ) → holds_at roster.now.peers.items conn j ≡ false) }
+fn holder(neighbours: &Neighbours, slots: &Slots, conn: Conn) -> Option<usize>
+    requires { AreOwned (owners_of slots.now) neighbours.now }
+    ensures there { IfSome result (λ i. IsSome (peer_at neighbours.now i)) }
+    ensures found { IfSome result (λ i. holds_at neighbours.now conn i ≡ true) }
+    ensures none { IfNone result ((j : ℕ) → holds_at neighbours.now conn j ≡ false) }
 {
-    let _count = roster.peers.len();
+    let _count = neighbours.count();
     slots.owner(conn)
 }
 
 /// The neighbour that octets on a connection are for.
 fn addressed<S: Strangers>(
-    roster: &Roster,
+    neighbours: &Neighbours,
     slots: &Slots,
     strangers: &S,
     conn: Conn,
     octets: &[u8],
 ) -> Option<usize>
-    requires roster { IsRoster roster.now }
-    requires owned { AreOwned (owners_of slots.now) roster.now.peers.items }
-    ensures there { IfSome result (λ i. IsSome (peer_at roster.now.peers.items i)) }
-    ensures found { IfSome result (IsAddressed (S.policy strangers.now) roster.now.peers.items conn octets.now) }
+    requires owned { AreOwned (owners_of slots.now) neighbours.now }
+    ensures there { IfSome result (λ i. IsSome (peer_at neighbours.now i)) }
+    ensures found { IfSome result (IsAddressed (S.policy strangers.now) neighbours.now conn octets.now) }
     ensures none { IfNone result ((i : ℕ)
-        → IsAddressed (S.policy strangers.now) roster.now.peers.items conn octets.now i → ⊥) }
+        → IsAddressed (S.policy strangers.now) neighbours.now conn octets.now i → ⊥) }
 {
-    match holder(roster, slots, conn) {
+    match holder(neighbours, slots, conn) {
         Some(index) => Some(index),
-        None => first_for(roster, strangers, octets),
+        None => first_for(neighbours, strangers, octets),
     }
 }
 
-/// The neighbour of the number, if there is one.
-fn numbered(peers: &[Option<Peer>], index: usize) -> Result<Option<usize>, OrderFault>
-    ensures found { IfOk result (λ o. (o ≡ Some index) × IsSome (peer_at peers.now index)) }
-    ensures fault { IfErr result (λ f. (f ≡ NoNeighbour) × (peer_at peers.now index ≡ None)) }
+/// The number, where a neighbour has it.
+fn numbered(neighbours: &Neighbours, index: usize) -> Result<Option<usize>, OrderFault>
+    ensures found { IfOk result (λ o. (o ≡ Some index) × IsSome (peer_at neighbours.now index)) }
+    ensures fault { IfErr result (λ f. (f ≡ NoNeighbour) × (peer_at neighbours.now index ≡ None)) }
 {
-    match peer_at(peers, index) {
+    match neighbours.peer(index) {
         Some(_) => Ok(Some(index)),
         None => Err(OrderFault::NoNeighbour),
     }
@@ -122,32 +117,33 @@ fn numbered(peers: &[Option<Peer>], index: usize) -> Result<Option<usize>, Order
 /// Whose the event is: of one neighbour, or of none.
 #[inline(always)]
 pub(crate) fn whose<S: Strangers>(
-    roster: &Roster,
+    neighbours: &Neighbours,
     slots: &Slots,
     strangers: &S,
     event: NodeEvent<'_>,
 ) -> Result<Option<usize>, OrderFault>
-    requires roster { IsRoster roster.now }
-    requires owned { AreOwned (owners_of slots.now) roster.now.peers.items }
-    requires free { StartsFree roster.now.peers.items event }
-    ensures there { IfOk result (λ o. IfSome o (λ i. IsSome (peer_at roster.now.peers.items i))) }
+    requires owned { AreOwned (owners_of slots.now) neighbours.now }
+    requires free { StartsFree neighbours.now event }
+    ensures there { IfOk result (λ o. IfSome o (λ i. IsSome (peer_at neighbours.now i))) }
     ensures concerned { IfOk result (λ o.
-        IfSome o (Concerns (S.policy strangers.now) roster.now.peers.items event.entry)) }
+        IfSome o (Concerns (S.policy strangers.now) neighbours.now event.entry)) }
     ensures nobody { IfOk result (λ o. IfNone o ((i : ℕ)
-        → Concerns (S.policy strangers.now) roster.now.peers.items event.entry i → ⊥)) }
-    ensures alone { IfOk result (λ o. IfSome o (IsAlone roster.now.peers.items (told_of event.entry))) }
-    ensures fault { IfErr result (IsMisdirected roster.now.peers.items event.entry) }
-    ensures misdirected { (f : OrderFault) → IsMisdirected roster.now.peers.items event.entry f → result ≡ Err f }
+        → Concerns (S.policy strangers.now) neighbours.now event.entry i → ⊥)) }
+    ensures alone { IfOk result (λ o. IfSome o (IsAlone neighbours.now (told_of event.entry))) }
+    ensures fault { IfErr result (IsMisdirected neighbours.now event.entry) }
+    ensures misdirected { (f : OrderFault) → IsMisdirected neighbours.now event.entry f → result ≡ Err f }
 {
     match event {
         NodeEvent::Start(index, _)
         | NodeEvent::Stop(index, _)
         | NodeEvent::Timeout(index)
         | NodeEvent::Tick(index)
-        | NodeEvent::Submit(index, _) => numbered(&roster.peers, index),
+        | NodeEvent::Submit(index, _) => numbered(neighbours, index),
         NodeEvent::Ack(conn) | NodeEvent::Nack(conn) | NodeEvent::Gone(conn) => {
-            Ok(holder(roster, slots, conn))
+            Ok(holder(neighbours, slots, conn))
         }
-        NodeEvent::Arrived(conn, octets) => Ok(addressed(roster, slots, strangers, conn, octets)),
+        NodeEvent::Arrived(conn, octets) => Ok(addressed(
+            neighbours, slots, strangers, conn, octets,
+        )),
     }
 }

@@ -31,12 +31,10 @@ fn raise_held(peer: &Peer, slots: &mut Slots, most: u32)
 fn raise_for(neighbours: &Neighbours, slots: &mut Slots, index: Option<usize>, most: u32)
     ensures owners { owners_of slots.new ≡ owners_of slots.old }
     ensures raised { intakes_of slots.new
-        ≡ raised_for most (concerned_in neighbours.now.peers index) (intakes_of slots.old) }
+        ≡ raised_for most (concerned_in neighbours.now index) (intakes_of slots.old) }
 {
-    if let Some(index) = index {
-        if let Some(peer) = neighbours.peer(index) {
-            raise_held(peer, slots, most);
-        }
+    if let Some(peer) = neighbours.concerned(index) {
+        raise_held(peer, slots, most);
     }
 }
 
@@ -51,13 +49,13 @@ pub(crate) fn settle(
     most: u32,
     answer: &Answer,
 )
-    requires there { AllHeldAreThere neighbours.now.peers (intakes_of slots.old) }
-    requires free { (c : Conn) → actions_close answer.now.actions.items c.0 ≡ true → IsFree neighbours.now.peers c }
-    ensures settled { intakes_of slots.new ≡ raised_for most (concerned_in neighbours.now.peers answer.now.neighbour)
+    requires there { AllHeldAreThere neighbours.now (intakes_of slots.old) }
+    requires free { (c : Conn) → actions_close answer.now.actions.items c.0 ≡ true → IsFree neighbours.now c }
+    ensures settled { intakes_of slots.new ≡ raised_for most (concerned_in neighbours.now answer.now.neighbour)
         (left_by answer.now.actions.items (intakes_of slots.old)) }
-    ensures held { AllHeldAreThere neighbours.now.peers (intakes_of slots.new) }
-    ensures owned { (ps : List (Option Peer)) → IsReowned ps neighbours.now.peers answer.now.neighbour before
-        → AreOwned (owners_of slots.old) ps → AreOwned (owners_of slots.new) neighbours.now.peers }
+    ensures held { AllHeldAreThere neighbours.now (intakes_of slots.new) }
+    ensures owned { (ps : List (Option Peer)) → IsReowned ps neighbours.now answer.now.neighbour before
+        → AreOwned (owners_of slots.old) ps → AreOwned (owners_of slots.new) neighbours.now }
 {
     what_is_there_stays();
     reown(neighbours, slots, before, answer.neighbour);

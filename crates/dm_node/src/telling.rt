@@ -1,9 +1,8 @@
 //! The neighbours of a node are told an event.
-ghost use Rattle.std.specs.Prelude.{◌≡◌, ◌⊎◌, ℕ, true, List, [], All, Err, IfOk, IfErr, IfSome, OnOk, OnErr};
+ghost use Rattle.std.specs.Prelude.{◌≡◌, ◌⊎◌, ℕ, true, List, [], All, Err, IfOk, IfErr, OnOk, OnErr};
 ghost use Rattle.dm_machine.specs.declared.connection.Conn.{Conn};
 ghost use Rattle.dm_node.specs.Declining.{IsDeclinedHere, GoesByRule, GoesByAllRules, EventTakesMemory};
-ghost use Rattle.dm_node.specs.Holding.{peer_at};
-ghost use Rattle.dm_node.specs.NodeHeld.{AllHeldAreThere, AreKept};
+ghost use Rattle.dm_node.specs.NodeHeld.{AllHeldAreThere};
 ghost use Rattle.dm_node.specs.NodeKnown.{known_of, AreKnown, MeetsAny, IsCopied};
 ghost use Rattle.dm_node.specs.NodeStates.{TakesMemoryAt};
 ghost use Rattle.dm_node.specs.Owning.{AreOwned, IsReowned};
@@ -12,7 +11,6 @@ ghost use Rattle.dm_node.specs.Telling.{IsFree, IsStrangeCer, IsWhose, IsRefused
 ghost use Rattle.dm_node.specs.declared.fault.OrderFault.TheVariants as faults;
 ghost use Rattle.dm_peer.specs.declared.fault.PeerFault.TheVariants as peer_faults;
 ghost use Rattle.dm_peer.specs.Events.{Arrived};
-ghost use Rattle.dm_peer.specs.Kept.{IsKept};
 ghost use Rattle.dm_peer.specs.Spelled.{SendsSpelling};
 ghost use Rattle.dm_slots.specs.Acquaintances.{known_after, known_at};
 ghost use Rattle.dm_slots.specs.Held.{owners_of};
@@ -20,27 +18,48 @@ ghost use Rattle.dm_slots.specs.Intakes.{Intakes as AllIntakes, actions_close};
 ghost use Rattle.dm_slots.specs.Naming.{NamesThere};
 
 use crate::known::Acquaintances;
-use crate::meeting::{copied, held_by, meet, meet_after, state_of};
-use crate::neighbours::{Neighbours, neighbours_are_apart};
+use crate::meeting::{copy_exchange, meet_after, meet_behind};
+use crate::neighbours::{Neighbours, neighbours_are_sound};
+use crate::one_told::tell_one;
 use crate::owners::Holding;
+use crate::routing::whose;
+use crate::unknown::tell_unknown;
 use crate::{Answer, NodeEvent, OrderFault, Strangers};
+use dm_base::Node;
 use dm_machine::Conn;
 use dm_machine::laws::each_opening_has_its_message;
 use dm_peer::laws::{
     each_event_is_one_step, each_event_keeps_settled, each_event_names_what_it_takes,
-    every_peer_is_kept, refusals_go_by_rule,
+    refusals_go_by_rule,
 };
 use dm_slots::Slots;
 use std::alloc::{AllocError, Global};
 
-/// What holds of the neighbour of the number, if there is one.
-pub(crate) fn look_at(neighbours: &Neighbours, index: Option<usize>)
-    ensures { IfSome index (λ i. IfSome (peer_at neighbours.now.peers i) IsKept) }
+/// What the node does at the event, which is of this neighbour, or of none, put into `answer`, whose actions are none
+/// before.
+#[inline(always)]
+fn tell_one_or_unknown<S: Strangers>(
+    alloc: Global,
+    own: &Node,
+    neighbours: &mut Neighbours,
+    strangers: &S,
+    who: Option<usize>,
+    event: NodeEvent<'_>,
+    answer: &mut Answer,
+) -> Result<(), OrderFault>
+    requires whose { IsWhose (S.policy strangers.now) neighbours.old event who }
+    requires none { answer.old.actions.items ≡ [] }
+    ensures told { OnOk result (NodeIsTold (S.policy strangers.now) event.entry own.now neighbours.old
+        answer.new.neighbour answer.new.actions.items neighbours.new) }
+    ensures refused { IfErr result (IsRefusedHere (S.policy strangers.now) neighbours.old event.entry) }
+    ensures rules { GoesByRule (S.policy strangers.now) neighbours.old event.entry result }
+    ensures unchanged { OnErr result (neighbours.new ≡ neighbours.old) }
+    ensures spelled { OnOk result (All SendsSpelling answer.new.actions.items) }
 {
-    if let Some(index) = index {
-        if let Some(peer) = neighbours.peer(index) {
-            every_peer_is_kept(peer);
-        }
+    neighbours_are_sound(neighbours);
+    match who {
+        Some(index) => tell_one(alloc, neighbours, index, event, answer),
+        None => tell_unknown(alloc, own, neighbours, strangers, event, answer),
     }
 }
 
@@ -49,43 +68,38 @@ pub(crate) fn look_at(neighbours: &Neighbours, index: Option<usize>)
 #[inline(always)]
 fn tell_neighbours<S: Strangers>(
     alloc: Global,
+    own: &Node,
     neighbours: &mut Neighbours,
     strangers: &S,
     who: Option<usize>,
     event: NodeEvent<'_>,
     answer: &mut Answer,
 ) -> Result<(), OrderFault>
-    requires whose { IsWhose (S.policy strangers.now) neighbours.old.peers event who }
-    requires kept { AreKept neighbours.old.peers }
+    requires whose { IsWhose (S.policy strangers.now) neighbours.old event who }
     requires none { answer.old.actions.items ≡ [] }
-    ensures told { OnOk result (NodeIsTold (S.policy strangers.now) event.entry neighbours.old.node
-        neighbours.old.peers answer.new.neighbour answer.new.actions.items neighbours.new.peers) }
+    ensures told { OnOk result (NodeIsTold (S.policy strangers.now) event.entry own.now
+        neighbours.old answer.new.neighbour answer.new.actions.items neighbours.new) }
     ensures closed { OnOk result ((c : Conn) → actions_close answer.new.actions.items c.0 ≡ true
-        → IsFree neighbours.new.peers c) }
-    ensures held { (f : AllIntakes) → AllHeldAreThere neighbours.old.peers f → NamesThere (told_of event.entry) f
-        → AllHeldAreThere neighbours.new.peers f }
-    ensures kept { AreKept neighbours.new.peers }
-    ensures node { neighbours.new.node ≡ neighbours.old.node }
+        → IsFree neighbours.new c) }
+    ensures held { (f : AllIntakes) → AllHeldAreThere neighbours.old f → NamesThere (told_of event.entry) f
+        → AllHeldAreThere neighbours.new f }
     ensures refused { IfErr result (λ fault. (fault ≡ faults.Peer peer_faults.NoMemory)
-        ⊎ IsDeclinedHere (S.policy strangers.now) neighbours.old.peers event.entry fault) }
+        ⊎ IsDeclinedHere (S.policy strangers.now) neighbours.old event.entry fault) }
     ensures memory { (c : Conn) (octets : List ℕ) → told_of event.entry ≡ Arrived c octets
-        → OnErr result (TakesMemoryAt (S.policy strangers.now) c octets neighbours.old.peers) }
-    ensures because { IfErr result (IsRefusedHere (S.policy strangers.now) neighbours.old.peers event.entry) }
-    ensures rules { GoesByRule (S.policy strangers.now) neighbours.old.peers event.entry result }
+        → OnErr result (TakesMemoryAt (S.policy strangers.now) c octets neighbours.old) }
+    ensures because { IfErr result (IsRefusedHere (S.policy strangers.now) neighbours.old event.entry) }
+    ensures rules { GoesByRule (S.policy strangers.now) neighbours.old event.entry result }
     ensures spelled { OnOk result (All SendsSpelling answer.new.actions.items) }
-    ensures unchanged { OnErr result (neighbours.new.peers ≡ neighbours.old.peers) }
+    ensures unchanged { OnErr result (neighbours.new ≡ neighbours.old) }
 {
     each_event_is_one_step();
     each_event_keeps_settled();
     each_event_names_what_it_takes();
     each_opening_has_its_message();
     refusals_go_by_rule();
-    neighbours_are_apart(neighbours);
-    match neighbours.tell_whose(alloc, strangers, who, event, answer) {
-        Ok(()) => {
-            look_at(neighbours, answer.neighbour);
-            Ok(())
-        }
+    neighbours_are_sound(neighbours);
+    match tell_one_or_unknown(alloc, own, neighbours, strangers, who, event, answer) {
+        Ok(()) => Ok(()),
         Err(fault) => Err(fault),
     }
 }
@@ -95,6 +109,7 @@ fn tell_neighbours<S: Strangers>(
 /// that behind an `Err` all is as it was.
 pub(crate) fn tell_message<S: Strangers>(
     alloc: Global,
+    own: &Node,
     neighbours: &mut Neighbours,
     known: &mut Acquaintances,
     slots: &Slots,
@@ -103,43 +118,47 @@ pub(crate) fn tell_message<S: Strangers>(
     octets: &[u8],
     answer: &mut Answer,
 ) -> Result<Holding, AllocError>
-    requires kept { AreKept neighbours.old.peers }
     requires none { answer.old.actions.items ≡ [] }
-    requires places { AreKnown neighbours.old.peers (known_of known.old) }
-    requires owned { AreOwned (owners_of slots.now) neighbours.old.peers }
-    ensures told { OnOk result (NodeMoves (S.policy strangers.now) conn octets.now neighbours.old.node
-        neighbours.old.peers answer.new.neighbour answer.new.actions.items neighbours.new.peers) }
+    requires places { AreKnown neighbours.old (known_of known.old) }
+    requires owned { AreOwned (owners_of slots.now) neighbours.old }
+    ensures told { OnOk result (NodeMoves (S.policy strangers.now) conn octets.now own.now
+        neighbours.old answer.new.neighbour answer.new.actions.items neighbours.new) }
     ensures closed { OnOk result ((c : Conn) → actions_close answer.new.actions.items c.0 ≡ true
-        → IsFree neighbours.new.peers c) }
-    ensures held { (f : AllIntakes) → AllHeldAreThere neighbours.old.peers f → NamesThere (Arrived conn octets.now) f
-        → AllHeldAreThere neighbours.new.peers f }
-    ensures kept { AreKept neighbours.new.peers }
-    ensures node { neighbours.new.node ≡ neighbours.old.node }
-    ensures before { IfOk result (IsReowned neighbours.old.peers neighbours.new.peers answer.new.neighbour) }
-    ensures places { AreKnown neighbours.new.peers (known_of known.new) }
+        → IsFree neighbours.new c) }
+    ensures held { (f : AllIntakes) → AllHeldAreThere neighbours.old f → NamesThere (Arrived conn octets.now) f
+        → AllHeldAreThere neighbours.new f }
+    ensures before { IfOk result (IsReowned neighbours.old neighbours.new answer.new.neighbour) }
+    ensures places { AreKnown neighbours.new (known_of known.new) }
     ensures met { OnOk result (MeetsAny (λ state q a. known_at conn state q octets.now a) answer.new.neighbour
-        neighbours.old.peers neighbours.new.peers (known_of known.old) (known_of known.new)) }
-    ensures memory { OnErr result (TakesMemoryAt (S.policy strangers.now) conn octets.now neighbours.old.peers
-        ⊎ IsCopied (S.policy strangers.now) conn octets.now neighbours.old.peers) }
+        neighbours.old neighbours.new (known_of known.old) (known_of known.new)) }
+    ensures memory { OnErr result (TakesMemoryAt (S.policy strangers.now) conn octets.now neighbours.old
+        ⊎ IsCopied (S.policy strangers.now) conn octets.now neighbours.old) }
     ensures spelled { OnOk result (All SendsSpelling answer.new.actions.items) }
-    ensures unchanged { OnErr result (neighbours.new.peers ≡ neighbours.old.peers) }
+    ensures unchanged { OnErr result (neighbours.new ≡ neighbours.old) }
     ensures same { OnErr result (known_of known.new ≡ known_of known.old) }
 {
+    neighbours_are_sound(neighbours);
     let event = NodeEvent::Arrived(conn, octets);
-    let who = match neighbours.whose(slots, strangers, event) {
+    let who = match whose(neighbours, slots, strangers, event) {
         Ok(who) => who,
         Err(_) => unreachable!(),
     };
-    let before = state_of(neighbours, who);
-    let held = held_by(neighbours, who);
-    let exchange = match copied(alloc, known, before, octets) {
+    let before = neighbours.before(who);
+    let exchange = match copy_exchange(alloc, known, before.state, octets) {
         Ok(exchange) => exchange,
         Err(error) => return Err(error),
     };
-    match tell_neighbours(alloc, neighbours, strangers, who, event, answer) {
+    match tell_neighbours(alloc, own, neighbours, strangers, who, event, answer) {
         Ok(()) => {
-            meet(neighbours, known, answer.neighbour, exchange, conn, before);
-            Ok(held)
+            meet_behind(
+                neighbours,
+                known,
+                answer.neighbour,
+                exchange,
+                conn,
+                before.state,
+            );
+            Ok(before.held)
         }
         Err(_) => Err(AllocError),
     }
@@ -149,6 +168,7 @@ pub(crate) fn tell_message<S: Strangers>(
 /// election met by it.
 pub(crate) fn tell_event<S: Strangers>(
     alloc: Global,
+    own: &Node,
     neighbours: &mut Neighbours,
     known: &mut Acquaintances,
     slots: &Slots,
@@ -156,46 +176,43 @@ pub(crate) fn tell_event<S: Strangers>(
     event: NodeEvent<'_>,
     answer: &mut Answer,
 ) -> Result<Holding, OrderFault>
-    requires kept { AreKept neighbours.old.peers }
     requires none { answer.old.actions.items ≡ [] }
-    requires places { AreKnown neighbours.old.peers (known_of known.old) }
-    requires owned { AreOwned (owners_of slots.now) neighbours.old.peers }
+    requires places { AreKnown neighbours.old (known_of known.old) }
+    requires owned { AreOwned (owners_of slots.now) neighbours.old }
     requires calm { IsStrangeCer event → ⊥ }
-    requires free { StartsFree neighbours.old.peers event }
-    ensures told { OnOk result (NodeIsTold (S.policy strangers.now) event.entry neighbours.old.node
-        neighbours.old.peers answer.new.neighbour answer.new.actions.items neighbours.new.peers) }
+    requires free { StartsFree neighbours.old event }
+    ensures told { OnOk result (NodeIsTold (S.policy strangers.now) event.entry own.now
+        neighbours.old answer.new.neighbour answer.new.actions.items neighbours.new) }
     ensures closed { OnOk result ((c : Conn) → actions_close answer.new.actions.items c.0 ≡ true
-        → IsFree neighbours.new.peers c) }
-    ensures held { (f : AllIntakes) → AllHeldAreThere neighbours.old.peers f → NamesThere (told_of event.entry) f
-        → AllHeldAreThere neighbours.new.peers f }
-    ensures kept { AreKept neighbours.new.peers }
-    ensures node { neighbours.new.node ≡ neighbours.old.node }
-    ensures before { IfOk result (IsReowned neighbours.old.peers neighbours.new.peers answer.new.neighbour) }
-    ensures places { AreKnown neighbours.new.peers (known_of known.new) }
-    ensures met { OnOk result (MeetsAny known_after answer.new.neighbour neighbours.old.peers neighbours.new.peers
+        → IsFree neighbours.new c) }
+    ensures held { (f : AllIntakes) → AllHeldAreThere neighbours.old f → NamesThere (told_of event.entry) f
+        → AllHeldAreThere neighbours.new f }
+    ensures before { IfOk result (IsReowned neighbours.old neighbours.new answer.new.neighbour) }
+    ensures places { AreKnown neighbours.new (known_of known.new) }
+    ensures met { OnOk result (MeetsAny known_after answer.new.neighbour neighbours.old neighbours.new
         (known_of known.old) (known_of known.new)) }
     ensures refused { IfErr result (λ fault. (fault ≡ faults.Peer peer_faults.NoMemory)
-        ⊎ IsDeclinedHere (S.policy strangers.now) neighbours.old.peers event.entry fault) }
+        ⊎ IsDeclinedHere (S.policy strangers.now) neighbours.old event.entry fault) }
     ensures memory { (c : Conn) (octets : List ℕ) → told_of event.entry ≡ Arrived c octets
-        → OnErr result (TakesMemoryAt (S.policy strangers.now) c octets neighbours.old.peers) }
-    ensures rules { GoesByAllRules (S.policy strangers.now) neighbours.old.peers event.entry result }
+        → OnErr result (TakesMemoryAt (S.policy strangers.now) c octets neighbours.old) }
+    ensures rules { GoesByAllRules (S.policy strangers.now) neighbours.old event.entry result }
     ensures wants { result ≡ Err (faults.Peer peer_faults.NoMemory)
-        → EventTakesMemory (S.policy strangers.now) neighbours.old.peers event.entry }
+        → EventTakesMemory (S.policy strangers.now) neighbours.old event.entry }
     ensures spelled { OnOk result (All SendsSpelling answer.new.actions.items) }
-    ensures unchanged { OnErr result (neighbours.new.peers ≡ neighbours.old.peers) }
+    ensures unchanged { OnErr result (neighbours.new ≡ neighbours.old) }
     ensures same { OnErr result (known_of known.new ≡ known_of known.old) }
 {
     refusals_go_by_rule();
-    let who = match neighbours.whose(slots, strangers, event) {
+    neighbours_are_sound(neighbours);
+    let who = match whose(neighbours, slots, strangers, event) {
         Ok(who) => who,
         Err(fault) => return Err(fault),
     };
-    let before = state_of(neighbours, who);
-    let held = held_by(neighbours, who);
-    match tell_neighbours(alloc, neighbours, strangers, who, event, answer) {
+    let before = neighbours.before(who);
+    match tell_neighbours(alloc, own, neighbours, strangers, who, event, answer) {
         Ok(()) => {
-            meet_after(neighbours, known, answer.neighbour, before);
-            Ok(held)
+            meet_after(neighbours, known, answer.neighbour, before.state);
+            Ok(before.held)
         }
         Err(fault) => Err(fault),
     }

@@ -1,7 +1,6 @@
 //! Events that concern no neighbour.
 ghost use Rattle.std.specs.Prelude.{◌≡◌, ℕ, None, IfOk, IfErr, OnOk, OnErr, IsSome, All};
 ghost use Rattle.dm_node.specs.Calling.{caller_of, answer_to};
-ghost use Rattle.dm_node.specs.Rosters.{IsRoster};
 ghost use Rattle.dm_node.specs.Strangers.{NodeMoves, NodeIsTold};
 ghost use Rattle.dm_node.specs.Telling.{Concerns, IsAddressed, IsStrangeCer};
 ghost use Rattle.dm_node.specs.declared.fault.OrderFault.TheVariants as faults;
@@ -9,30 +8,38 @@ ghost use Rattle.dm_peer.specs.Spelled.{SendsSpelling};
 ghost use Rattle.dm_peer.specs.declared.fault.PeerFault.TheVariants as peer_faults;
 
 use crate::calling::answer_to;
-use crate::events::NodeActions;
+use crate::neighbours::Neighbours;
 use crate::offering::offered;
-use crate::roster::Roster;
 use crate::welcoming::welcome;
 use crate::{Answer, NodeEvent, OrderFault, Strangers};
 use arrayvec::ArrayVec;
 use dm_base::Node;
-use dm_peer::{Conn, PeerFault};
+use dm_peer::{Actions, Conn, PeerFault};
 use std::alloc::Global;
 
+/// What is done at an event that concerns no neighbour.
+#[derive(Drop)]
+pub(crate) struct StrangerActions {
+    /// The number of the neighbour that the stranger became, if it became one.
+    pub(crate) neighbour: Option<usize>,
+    /// What is to be done, in this order.
+    pub(crate) actions: Actions,
+}
+
 /// A stranger is answered, where the octets are a CER, and closed.
-fn turn_off(
+fn turn_away(
     alloc: Global,
     node: &Node,
     conn: Conn,
     octets: &[u8],
-) -> Result<NodeActions, OrderFault>
+) -> Result<StrangerActions, OrderFault>
     ensures nobody { IfOk result (λ r. r.neighbour ≡ None) }
     ensures answer { IfOk result (λ r. r.actions.items ≡ answer_to node.now conn (caller_of octets.now)) }
     ensures spelled { IfOk result (λ r. All SendsSpelling r.actions.items) }
     ensures memory { IfErr result (λ f. (f ≡ faults.Peer peer_faults.NoMemory) × IsSome (caller_of octets.now)) }
 {
     match answer_to(alloc, node, conn, octets) {
-        Ok(actions) => Ok(NodeActions {
+        Ok(actions) => Ok(StrangerActions {
             neighbour: None,
             actions,
         }),
@@ -41,52 +48,48 @@ fn turn_off(
 }
 
 /// What is done at octets of a connection that concern no neighbour.
-fn meet_stranger<S: Strangers>(
+fn welcome_or_turn_away<S: Strangers>(
     alloc: Global,
     node: &Node,
-    roster: &mut Roster,
+    neighbours: &mut Neighbours,
     strangers: &S,
     conn: Conn,
     octets: &[u8],
-) -> Result<NodeActions, OrderFault>
-    requires roster { IsRoster roster.old }
-    requires nobody { (i : ℕ) → IsAddressed (S.policy strangers.now) roster.old.peers.items conn octets.now i → ⊥ }
+) -> Result<StrangerActions, OrderFault>
+    requires { (i : ℕ) → IsAddressed (S.policy strangers.now) neighbours.old conn octets.now i → ⊥ }
     ensures moved { IfOk result (λ r. NodeMoves (S.policy strangers.now) conn octets.now node.now
-        roster.old.peers.items r.neighbour r.actions.items roster.new.peers.items) }
+        neighbours.old r.neighbour r.actions.items neighbours.new) }
     ensures spelled { IfOk result (λ r. All SendsSpelling r.actions.items) }
     ensures memory { IfErr result (λ f. (f ≡ faults.Peer peer_faults.NoMemory) × IsSome (caller_of octets.now)) }
-    ensures unchanged { OnErr result (roster.new.peers.items ≡ roster.old.peers.items) }
-    ensures roster { IsRoster roster.new }
+    ensures unchanged { OnErr result (neighbours.new ≡ neighbours.old) }
 {
-    match offered(alloc, roster, strangers, octets) {
-        Ok(Some(config)) => welcome(alloc, roster, config, conn, octets),
-        Ok(None) => turn_off(alloc, node, conn, octets),
+    match offered(alloc, neighbours, strangers, octets) {
+        Ok(Some(config)) => welcome(alloc, neighbours, config, conn, octets),
+        Ok(None) => turn_away(alloc, node, conn, octets),
         Err(_) => Err(OrderFault::Peer(PeerFault::NoMemory)),
     }
 }
 
 /// What is done at an event that concerns no neighbour.
-fn at_stranger<S: Strangers>(
+fn at_unknown<S: Strangers>(
     alloc: Global,
     node: &Node,
-    roster: &mut Roster,
+    neighbours: &mut Neighbours,
     strangers: &S,
     event: NodeEvent<'_>,
-) -> Result<NodeActions, OrderFault>
-    requires roster { IsRoster roster.old }
-    requires nobody { (i : ℕ) → Concerns (S.policy strangers.now) roster.old.peers.items event i → ⊥ }
+) -> Result<StrangerActions, OrderFault>
+    requires { (i : ℕ) → Concerns (S.policy strangers.now) neighbours.old event i → ⊥ }
     ensures told { IfOk result (λ r. NodeIsTold (S.policy strangers.now) event.entry node.now
-        roster.old.peers.items r.neighbour r.actions.items roster.new.peers.items) }
+        neighbours.old r.neighbour r.actions.items neighbours.new) }
     ensures spelled { IfOk result (λ r. All SendsSpelling r.actions.items) }
     ensures memory { IfErr result (λ f. (f ≡ faults.Peer peer_faults.NoMemory) × IsStrangeCer event.entry) }
-    ensures unchanged { OnErr result (roster.new.peers.items ≡ roster.old.peers.items) }
-    ensures roster { IsRoster roster.new }
+    ensures unchanged { OnErr result (neighbours.new ≡ neighbours.old) }
 {
     match event {
         NodeEvent::Arrived(conn, octets) => {
-            meet_stranger(alloc, node, roster, strangers, conn, octets)
+            welcome_or_turn_away(alloc, node, neighbours, strangers, conn, octets)
         }
-        _ => Ok(NodeActions {
+        _ => Ok(StrangerActions {
             neighbour: None,
             actions: ArrayVec::new(),
         }),
@@ -98,21 +101,19 @@ fn at_stranger<S: Strangers>(
 pub(crate) fn tell_unknown<S: Strangers>(
     alloc: Global,
     node: &Node,
-    roster: &mut Roster,
+    neighbours: &mut Neighbours,
     strangers: &S,
     event: NodeEvent<'_>,
     answer: &mut Answer,
 ) -> Result<(), OrderFault>
-    requires roster { IsRoster roster.old }
-    requires nobody { (i : ℕ) → Concerns (S.policy strangers.now) roster.old.peers.items event i → ⊥ }
-    ensures told { OnOk result (NodeIsTold (S.policy strangers.now) event.entry node.now roster.old.peers.items
-        answer.new.neighbour answer.new.actions.items roster.new.peers.items) }
+    requires { (i : ℕ) → Concerns (S.policy strangers.now) neighbours.old event i → ⊥ }
+    ensures told { OnOk result (NodeIsTold (S.policy strangers.now) event.entry node.now neighbours.old
+        answer.new.neighbour answer.new.actions.items neighbours.new) }
     ensures spelled { OnOk result (All SendsSpelling answer.new.actions.items) }
     ensures memory { IfErr result (λ f. (f ≡ faults.Peer peer_faults.NoMemory) × IsStrangeCer event.entry) }
-    ensures unchanged { OnErr result (roster.new.peers.items ≡ roster.old.peers.items) }
-    ensures roster { IsRoster roster.new }
+    ensures unchanged { OnErr result (neighbours.new ≡ neighbours.old) }
 {
-    match at_stranger(alloc, node, roster, strangers, event) {
+    match at_unknown(alloc, node, neighbours, strangers, event) {
         Ok(done) => {
             answer.neighbour = done.neighbour;
             answer.actions = done.actions;

@@ -4,7 +4,6 @@ ghost use Rattle.dm_dict_text.specs.declared.fault.DictFault.TheVariants as faul
 ghost use Rattle.dm_dict_text.specs.Outcome.{Defines, IsFirstFault};
 ghost use Rattle.dm_tables.specs.Base.{base_definitions};
 
-use crate::input::VERSION;
 use anyhow::{Context, Error, Result};
 use dm_dict::{DictFault, Dictionary};
 use dm_text::{Lines, Words};
@@ -12,6 +11,9 @@ use dm_view_lines::read_file;
 use std::alloc::Global;
 use std::fs::File;
 use std::{fs, io, str};
+
+/// The version of a run's texts, which stands before the first line of all.
+const VERSION: &[u8] = b"@ 2 ";
 
 /// The base dictionary and behind it what the text defines; or the first fault of the text, or want of memory.
 fn dictionary_over(alloc: Global, text: &[u8]) -> Result<Dictionary, DictFault>

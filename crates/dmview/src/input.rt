@@ -8,9 +8,6 @@ use std::fs::File;
 use std::io::{Chain, Read};
 use std::mem;
 
-/// The version of the texts of dictionaries.
-pub const VERSION: &[u8] = b"@ 2 ";
-
 /// Opens a file. A directory is refused, as a read of it would be.
 fn open_file(rt: &HostRuntime, name: &str) -> Result<File> {
     let mut file = File::open(rt, name).context(format_args!("dmview: {name}"))?;

@@ -1,6 +1,7 @@
 //! The program `dmview`: what Diameter messages say, in names and values, and all that is wrong with them.
 //!
-//! What it prints for its input is dm_view_lines'; here are only the command line, the files and the status.
+//! What it prints for lines and streams is dm_view_lines', for captures dm_trace_view's; here are the command line, the
+//! files, the dictionary of a run and the status.
 #![tactic(auto)]
 
 ghost use Rattle.std.specs.Prelude.{◌≡◌, true, false, if◌then◌else◌};
@@ -10,13 +11,13 @@ mod capture;
 mod command;
 mod dictionary;
 mod input;
-mod style;
+mod written;
 
 use crate::capture::{asked_of, asks_of_capture, looks_of};
 use crate::command::command_line;
 use crate::dictionary::dictionary_of;
 use crate::input::{behind_front, first_is_capture, lines_of, open_files, open_texts};
-use crate::style::write_said;
+use crate::written::write_said;
 use anyhow::{Context, Error, Result};
 use clap::{ArgMatches, error};
 use dm_dict::Dictionary;

@@ -11,4 +11,4 @@ pub returns-then-branch-clause-given : goal.returns-then-branch-clause-given
 returns-then-branch-clause-given g c =
     line_or_end _ _ _ _ _
     (read_through _ _ _ _ _ _ c.piece.invariant c.in_ok-take_piece.ensures.taken c.if-branch.true)
-    c.end_line.ensures.none c.end_line.ensures.some c.end_line.ensures.line
+    c.strip_line_end.ensures.none c.strip_line_end.ensures.some c.strip_line_end.ensures.line

@@ -2,4 +2,4 @@
 use Rattle.dm_node.proofs.laws.neighbours_are_sound.Goals as goal
 
 pub returns : goal.returns
-returns c = record { neighbourhood = c.neighbours_are_apart.ensures; kept = c.args.node.now.kept }
+returns c = record { neighbourhood = c.neighbours_are_sound.ensures.apart; kept = c.neighbours_are_sound.ensures.kept }

@@ -10,7 +10,7 @@ use Rattle.dm_node.proofs.offering.offered.Goals as goal
 pub returns-then-count-most-clause-offered : goal.returns-then-count-most-clause-offered
 returns-then-count-most-clause-offered g c =
     let policy = g.S.Strangers.policy c.args.strangers.now in
-    let ps = c.args.roster.now.peers.items in
+    let ps = c.args.neighbours.now in
     if_ok c.made_by.result
     (λ o h. permits policy ps c.args.octets.now (c.in-Some.field-0-0, c.in-Some.host.now) o c.in-Some.ensures.found
     (omega (arith, c.count.ensures, c.most.ensures, c.if-count-most.true)) h)
@@ -19,7 +19,7 @@ returns-then-count-most-clause-offered g c =
 pub returns-then-count-most-clause-none : goal.returns-then-count-most-clause-none
 returns-then-count-most-clause-none g c =
     let policy = g.S.Strangers.policy c.args.strangers.now in
-    let ps = c.args.roster.now.peers.items in
+    let ps = c.args.neighbours.now in
     if_ok c.made_by.result
     (λ o h. if_none (MakesNoneFor policy c.in-Some.host.now) ((d : Conn) → IsForbidden policy ps d c.args.octets.now) o
     (λ none. forbids policy ps c.args.octets.now (c.in-Some.field-0-0, c.in-Some.host.now) c.in-Some.ensures.found
@@ -29,11 +29,11 @@ returns-then-count-most-clause-none g c =
 pub returns-else-count-most-clause-none : goal.returns-else-count-most-clause-none
 returns-else-count-most-clause-none g c =
     let policy = g.S.Strangers.policy c.args.strangers.now in
-    let ps = c.args.roster.now.peers.items in
+    let ps = c.args.neighbours.now in
     forbids policy ps c.args.octets.now (c.in-Some.field-0-0, c.in-Some.host.now) c.in-Some.ensures.found
     (inl (omega (arith, c.count.ensures, c.most.ensures, c.if-count-most.false)))
 
 pub returns-in-None-clause-none : goal.returns-in-None-clause-none
 returns-in-None-clause-none g c =
-    forbids_none (g.S.Strangers.policy c.args.strangers.now) c.args.roster.now.peers.items c.args.octets.now
+    forbids_none (g.S.Strangers.policy c.args.strangers.now) c.args.neighbours.now c.args.octets.now
     c.in-None.ensures.none

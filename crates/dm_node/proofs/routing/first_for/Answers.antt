@@ -1,6 +1,5 @@
 -- Where no host calls and there is no porter the octets are for nobody.
-use Rattle.std.proofs.Common.{ℕ, List, IfNone, Option, subst}
-use Rattle.dm_peer.specs.declared.peer.Peer.{Peer}
+use Rattle.std.proofs.Common.{ℕ}
 use Rattle.dm_node.specs.Telling.{IsPorter, IsFirstFor}
 use Rattle.dm_node.proofs.Concerned.{for_nobody}
 use Rattle.dm_node.proofs.Welcomed.{if_none}
@@ -9,8 +8,6 @@ use Rattle.dm_node.proofs.routing.first_for.Goals as goal
 pub returns-in-None-clause-none : goal.returns-in-None-clause-none
 returns-in-None-clause-none g c =
     let policy = g.S.Strangers.policy c.args.strangers.now in
-    let ps = c.args.roster.now.peers.items in
+    let ps = c.args.neighbours.now in
     if_none ((i : ℕ) → IsPorter policy ps i → ⊥) ((i : ℕ) → IsFirstFor policy ps c.args.octets.now i → ⊥)
-    c.porter.result (for_nobody policy ps c.args.octets.now c.in-None.ensures.none)
-    (subst (λ (l : List (Option Peer)). IfNone c.porter.result ((i : ℕ) → IsPorter policy l i → ⊥))
-    c.deref.ensures.value c.porter.ensures.none)
+    c.porter.result (for_nobody policy ps c.args.octets.now c.in-None.ensures.none) c.porter.ensures.none

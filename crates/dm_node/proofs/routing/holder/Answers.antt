@@ -5,15 +5,15 @@ use Rattle.dm_node.proofs.routing.holder.Goals as goal
 
 pub returns-clause-there : goal.returns-clause-there
 returns-clause-there c =
-    owner_there c.args.roster.now.peers.items (owners_of c.args.slots.now) c.args.conn c.owner.result c.owner.ensures
+    owner_there c.args.neighbours.now (owners_of c.args.slots.now) c.args.conn c.owner.result c.owner.ensures
     c.requires
 
 pub returns-clause-found : goal.returns-clause-found
 returns-clause-found c =
-    owner_holds c.args.roster.now.peers.items (owners_of c.args.slots.now) c.args.conn c.owner.result c.owner.ensures
+    owner_holds c.args.neighbours.now (owners_of c.args.slots.now) c.args.conn c.owner.result c.owner.ensures
     c.requires
 
 pub returns-clause-none : goal.returns-clause-none
 returns-clause-none c =
-    unowned_free c.args.roster.now.peers.items (owners_of c.args.slots.now) c.args.conn c.owner.result c.owner.ensures
+    unowned_free c.args.neighbours.now (owners_of c.args.slots.now) c.args.conn c.owner.result c.owner.ensures
     c.requires

@@ -7,11 +7,11 @@ use Rattle.dm_node.proofs.routing.whose.Goals as goal
 pub returns-in-Arrived-clause-concerned : goal.returns-in-Arrived-clause-concerned
 returns-in-Arrived-clause-concerned g c =
     let policy = g.S.Strangers.policy c.args.strangers.now in
-    subst (λ (e : NodeEvent). IfSome c.addressed.result (Concerns policy c.args.roster.now.peers.items e))
+    subst (λ (e : NodeEvent). IfSome c.addressed.result (Concerns policy c.args.neighbours.now e))
     (sym c.in-Arrived.is) c.addressed.ensures.found
 
 pub returns-in-Arrived-clause-nobody : goal.returns-in-Arrived-clause-nobody
 returns-in-Arrived-clause-nobody g c =
     let policy = g.S.Strangers.policy c.args.strangers.now in
     subst (λ (e : NodeEvent). IfNone c.addressed.result
-    ((i : ℕ) → Concerns policy c.args.roster.now.peers.items e i → ⊥)) (sym c.in-Arrived.is) c.addressed.ensures.none
+    ((i : ℕ) → Concerns policy c.args.neighbours.now e i → ⊥)) (sym c.in-Arrived.is) c.addressed.ensures.none

@@ -15,7 +15,7 @@ pub returns-clause-held : goal.returns-clause-held
 returns-clause-held c =
     let left =
     rw (c.leave.ensures.left, c.as_slice.ensures.value, c.reown.ensures.intakes) at c.raise_for.ensures.raised in
-    let ps = c.args.neighbours.now.peers in
+    let ps = c.args.neighbours.now in
     subst (AllHeldAreThere ps) (sym left)
     (held_left c.what_is_there_stays.ensures.closed c.what_is_there_stays.ensures.raised ps
     c.args.answer.now.actions.items c.args.most (concerned_in ps c.args.answer.now.neighbour)
@@ -23,7 +23,7 @@ returns-clause-held c =
 
 pub returns-clause-owned : goal.returns-clause-owned
 returns-clause-owned c = λ ps is owned.
-    owned_left c.args.neighbours.now.peers c.args.answer.now.actions.items (owners_of c.reown.new.slots)
+    owned_left c.args.neighbours.now c.args.answer.now.actions.items (owners_of c.reown.new.slots)
     (owners_of c.raise_for.new.slots) c.requires.free
     (c.raise_for.ensures.owners ∙ rw (c.as_slice.ensures.value) at c.leave.ensures.owners)
     (c.reown.ensures.owned ps is owned)

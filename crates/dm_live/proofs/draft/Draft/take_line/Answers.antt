@@ -5,13 +5,13 @@ use Rattle.dm_live.specs.Drafts.{settings_of}
 use Rattle.dm_live.proofs.Untold.{no_specific, no_one}
 use Rattle.dm_live.proofs.draft.Draft.take_line.Goals as goal
 
-pub returns-in-Some-read_specific-clause-bad : goal.returns-in-Some-read_specific-clause-bad
-returns-in-Some-read_specific-clause-bad c =
+pub returns-in-Some-read_vendor_application-clause-bad : goal.returns-in-Some-read_vendor_application-clause-bad
+returns-in-Some-read_vendor_application-clause-bad c =
     let rest = words c.next.new.self in
-    no_specific c.take_specific.result c.args.line.now c.in-Some-read_specific.accounting rest
+    no_specific c.take_vendor_application.result c.args.line.now c.in-Some-read_vendor_application.accounting rest
     (settings_of c.args.self.now)
-    (sym (ap words c.new-left.ensures) ∙ c.in-Some.ensures.steps ∙ ap (λ w. w ∷ rest) c.in-Some-read_specific.ensures.told)
-    c.take_specific.ensures.bad
+    (sym (ap words c.new-left.ensures) ∙ c.in-Some.ensures.steps ∙ ap (λ w. w ∷ rest) c.in-Some-read_vendor_application.ensures.told)
+    c.take_vendor_application.ensures.bad
 
 pub returns-in-None-clause-bad : goal.returns-in-None-clause-bad
 returns-in-None-clause-bad c =

@@ -1,11 +1,10 @@
-use Rattle.std.proofs.Common.{subst}
-use Rattle.std.specs.Prelude.{◌↔◌, IsErrOf}
-use Rattle.dm_node.specs.Neighbourhoods.{Neighbourhood}
-use Rattle.dm_node.specs.Holding.{IsKnown}
-use Rattle.dm_node.specs.declared.fault.AddFault.TheVariants.{Known}
+-- The peer is a new one.
+use Rattle.std.proofs.Common.{◌≡◌, ◌∷◌, [], ◌++◌, Some, OnOk, subst}
+use Rattle.dm_peer.specs.declared.peer.Peer.{Peer}
+use Rattle.dm_node.proofs.Growing.{made}
 use Rattle.dm_node.proofs.neighbours.Neighbours.add.Goals as goal
 
-pub returns-clause-known : goal.returns-clause-known
-returns-clause-known c =
-    subst (λ (n : Neighbourhood). IsErrOf c.put.result Known ↔ IsKnown n.peers c.args.config.peer)
-    c.self.view_is c.put.ensures.known
+pub returns-clause-added : goal.returns-clause-added
+returns-clause-added c =
+    subst (λ (y : Peer). OnOk c.insert.result (c.insert.new.self ≡ c.args.self.now ++ Some y ∷ []))
+    (made c.new.result c.args.config c.new.ensures.config c.new.ensures.standing) c.insert.ensures.added

@@ -9,10 +9,9 @@ pub invariant_of-self : goal.invariant_of-self
 invariant_of-self c =
     record {
       held = λ i d held. c.args.self.now.held i d (c.add_neighbour.ensures.held d i held);
-      owned = owned_added c.add_neighbour.result c.args.self.now.neighbours.peers _ c.args.config (owners_of c.args.self.now.intakes)
+      owned = owned_added c.add_neighbour.result c.args.self.now.neighbours _ c.args.config (owners_of c.args.self.now.intakes)
           c.add_neighbour.ensures.added c.add_neighbour.ensures.unchanged c.args.self.now.owned;
-      kept = c.add_neighbour.ensures.kept;
-      met = known_added c.add_neighbour.result c.args.self.now.neighbours.peers _ c.args.config
+      met = known_added c.add_neighbour.result c.args.self.now.neighbours _ c.args.config
           (known_of c.args.self.now.known) _ c.add_neighbour.ensures.added c.add_neighbour.ensures.unchanged
           c.add_neighbour.ensures.unmet c.add_neighbour.ensures.same c.args.self.now.met;
     }

@@ -10,11 +10,11 @@ use Rattle.dm_node.proofs.node.Node.gone.Goals as goal
 pub shut-requires : goal.shut-requires
 shut-requires c =
     gone_free c.each_event_names_what_it_takes.ensures.gone c.args.conn (node_state_of c.args.self.now)
-    (node_state_of c.tell_there.new.self) _ c.args.self.now.kept c.neighbours_are_apart.ensures.apart
+    (node_state_of c.tell_if_there.new.self) _ c.neighbours_are_sound.ensures.kept c.neighbours_are_sound.ensures.apart.apart
     c.args.self.now.held c.in-Ok.ensures.told
 
 pub returns-in-Ok-clause-met : goal.returns-in-Ok-clause-met
 returns-in-Ok-clause-met c =
-    after_moved (asks_of c.tell_there.new.answer) (node_state_of c.args.self.now)
-    (node_state_of c.tell_there.new.self) (node_state_of c.shut.new.self) (node_known_of c.args.self.now) _ _
+    after_moved (asks_of c.tell_if_there.new.answer) (node_state_of c.args.self.now)
+    (node_state_of c.tell_if_there.new.self) (node_state_of c.shut.new.self) (node_known_of c.args.self.now) _ _
     (ap (λ (t : NodeState). t.peers) c.shut.ensures.shut) c.shut.ensures.known c.in-Ok.ensures.met

@@ -12,13 +12,13 @@ pub returns-in-Ok-clause-turn : goal.returns-in-Ok-clause-turn
 returns-in-Ok-clause-turn g c =
     let policy = g.S.Strangers.policy c.args.strangers.now in
     let old = node_state_of c.args.self.now in
-    let qs = c.tell_message.new.neighbours.peers in
+    let qs = c.tell_message.new.neighbours in
     let answer = c.tell_message.new.answer in
     heard_where_it_lies policy c.args.conn c.args.piece.now old
-    (node_at old c.tell_message.new.neighbours.node qs (intakes_of c.settle.new.slots)) (as_answer answer)
+    (node_at old qs (intakes_of c.settle.new.slots)) (as_answer answer)
     qs c.in-Some.size c.in-Some.ensures.whole c.in-Ok.ensures.told
-    (settled_as old c.tell_message.new.neighbours.node qs answer.neighbour answer.actions.items _ _ _
-    c.tell_message.ensures.node c.settle.ensures.settled refl)
+    (settled_as old qs answer.neighbour answer.actions.items _ _ _
+    c.settle.ensures.settled refl)
 
 pub settle-requires-clause-there : goal.settle-requires-clause-there
 settle-requires-clause-there g c =
@@ -31,8 +31,7 @@ pub invariant_of-self : goal.invariant_of-self
 invariant_of-self g c =
     record {
       held = c.settle.ensures.held;
-      owned = c.settle.ensures.owned c.args.self.now.neighbours.peers c.in-Ok.ensures.before c.args.self.now.owned;
-      kept = c.tell_message.ensures.kept;
+      owned = c.settle.ensures.owned c.args.self.now.neighbours c.in-Ok.ensures.before c.args.self.now.owned;
       met = c.tell_message.ensures.places;
     }
 
@@ -42,8 +41,8 @@ returns-in-Err-clause-memory g c = inl (c.in-Some.size, c.in-Some.ensures.whole,
 pub returns-in-Ok-clause-met : goal.returns-in-Ok-clause-met
 returns-in-Ok-clause-met g c =
     let old = node_state_of c.args.self.now in
-    let qs = c.tell_message.new.neighbours.peers in
+    let qs = c.tell_message.new.neighbours in
     met_where_it_lies c.args.conn c.args.piece.now old
-    (node_at old c.tell_message.new.neighbours.node qs (intakes_of c.settle.new.slots))
+    (node_at old qs (intakes_of c.settle.new.slots))
     (as_answer c.tell_message.new.answer) c.in-Some.size (node_known_of c.args.self.now)
     (known_of c.tell_message.new.known) c.in-Some.ensures.whole c.in-Ok.ensures.met

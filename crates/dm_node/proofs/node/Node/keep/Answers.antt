@@ -8,7 +8,7 @@ use Rattle.dm_node.proofs.node.Node.keep.Goals as goal
 
 pub invariant_of-self : goal.invariant_of-self
 invariant_of-self c =
-    let ps = c.args.self.now.neighbours.peers in
+    let ps = c.args.self.now.neighbours in
     let old = intakes_of c.args.self.now.intakes in
     let fed = fed_intake c.args.piece.now in
     record {
@@ -17,6 +17,5 @@ invariant_of-self c =
           (held_changed c.what_is_there_stays.ensures.changed ps c.args.conn.0 fed old c.args.self.now.held)
           c.args.self.now.held;
       owned = owned_same ps (owners_of c.args.self.now.intakes) (owners_of c.feed.new.self) c.feed.ensures.owners c.args.self.now.owned;
-      kept = c.args.self.now.kept;
       met = c.args.self.now.met;
     }

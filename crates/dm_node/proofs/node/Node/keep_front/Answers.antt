@@ -14,7 +14,7 @@ some_or_not (Err e) P x old new ok err there before = subst P (sym err) before
 
 pub invariant_of-self : goal.invariant_of-self
 invariant_of-self c =
-    let ps = c.args.self.now.neighbours.peers in
+    let ps = c.args.self.now.neighbours in
     let old = intakes_of c.args.self.now.intakes in
     let fed : ℕ → Intakes = λ n. changed c.args.conn.0 (fed_intake (take n c.args.piece.now)) old in
     record {
@@ -24,6 +24,5 @@ invariant_of-self c =
           (fed_intake (take n c.args.piece.now)) old c.args.self.now.held) c.args.self.now.held;
       owned = owned_same ps (owners_of c.args.self.now.intakes) (owners_of c.feed_front.new.self)
           c.feed_front.ensures.owners c.args.self.now.owned;
-      kept = c.args.self.now.kept;
       met = c.args.self.now.met;
     }

@@ -7,4 +7,4 @@ use Rattle.dm_node.proofs.node.Node.known.Goals as goal
 pub returns-clause-there : goal.returns-clause-there
 returns-clause-there c =
     sym (there_copied c.get.result) ∙ ap (λ o. is_some o) c.get.ensures
-    ∙ present_at c.args.self.now.neighbours.peers (node_known_of c.args.self.now) c.args.index c.args.self.now.met
+    ∙ present_at c.args.self.now.neighbours (node_known_of c.args.self.now) c.args.index c.args.self.now.met

@@ -7,5 +7,5 @@ use Rattle.dm_node.proofs.node.Node.new.Goals as goal
 
 pub invariant_of-result-clause-owned : goal.invariant_of-result-clause-owned
 invariant_of-result-clause-owned c =
-    subst (AreOwned (owners_of c.new-3.result)) (sym c.new.ensures.empty)
+    subst (AreOwned (owners_of c.new-3.result)) (sym c.new.ensures)
     (none_owned _ (owners_of c.new-3.result) (λ d i. refl) (λ d. ap (λ f. f d) c.new-3.ensures.owners))

@@ -15,10 +15,10 @@ returns-in-Ok-clause-turn g c =
     let policy = g.S.Strangers.policy c.args.strangers.now in
     let at = c.in-Message.ensures in
     let old = node_state_of c.args.self.now in
-    let qs = c.tell_message.new.neighbours.peers in
+    let qs = c.tell_message.new.neighbours in
     let gone = c.skip.ensures.skipped at.0 c.in-Message.message.now at.1 at.2 at.3 in
     let told : NodeTellsMessage policy c.args.conn old (as_answer c.tell_message.new.answer)
-    (node_at old c.tell_message.new.neighbours.node qs (intakes_of c.settle.new.slots)) =
+    (node_at old qs (intakes_of c.settle.new.slots)) =
     record {
       intake = at.0;
       message = c.in-Message.message.now;
@@ -28,8 +28,8 @@ returns-in-Ok-clause-turn g c =
       told = record {
         peers = qs;
         moved = c.in-Ok.ensures.told;
-        left = settled_as old c.tell_message.new.neighbours.node qs c.tell_message.new.answer.neighbour
-            c.tell_message.new.answer.actions.items _ _ _ c.tell_message.ensures.node c.settle.ensures.settled gone;
+        left = settled_as old qs c.tell_message.new.answer.neighbour
+            c.tell_message.new.answer.actions.items _ _ _ c.settle.ensures.settled gone;
       };
     } in
     (refl, told)
@@ -38,10 +38,9 @@ pub invariant_of-self-in-Ok : goal.invariant_of-self-in-Ok
 invariant_of-self-in-Ok g c =
     record {
       held = c.settle.ensures.held;
-      owned = c.settle.ensures.owned c.args.self.now.neighbours.peers c.in-Ok.ensures.before
-          (owned_same c.args.self.now.neighbours.peers (owners_of c.args.self.now.intakes)
+      owned = c.settle.ensures.owned c.args.self.now.neighbours c.in-Ok.ensures.before
+          (owned_same c.args.self.now.neighbours (owners_of c.args.self.now.intakes)
           (owners_of c.skip.new.self) c.skip.ensures.owners c.args.self.now.owned);
-      kept = c.tell_message.ensures.kept;
       met = c.tell_message.ensures.places;
     }
 
@@ -64,8 +63,8 @@ pub returns-in-Ok-clause-met : goal.returns-in-Ok-clause-met
 returns-in-Ok-clause-met g c =
     let at = c.in-Message.ensures in
     let old = node_state_of c.args.self.now in
-    let qs = c.tell_message.new.neighbours.peers in
-    let new = node_at old c.tell_message.new.neighbours.node qs (intakes_of c.settle.new.slots) in
+    let qs = c.tell_message.new.neighbours in
+    let new = node_at old qs (intakes_of c.settle.new.slots) in
     let ks = node_known_of c.args.self.now in
     let ls = known_of c.tell_message.new.known in
     let answer = as_answer c.tell_message.new.answer in
@@ -85,7 +84,7 @@ settle-requires-clause-there g c =
     let at = c.in-Message.ensures in
     let message = c.in-Message.message.now in
     let old = intakes_of c.args.self.now.intakes in
-    let qs = c.tell_message.new.neighbours.peers in
+    let qs = c.tell_message.new.neighbours in
     subst (AllHeldAreThere qs) (sym (c.skip.ensures.skipped at.0 message at.1 at.2 at.3))
     (held_with c.what_is_there_stays.ensures.told qs c.args.conn.0 (record at.0 { octets = at.1 }) old
     (c.tell_message.ensures.held old c.args.self.now.held (arrived_there c.args.conn message at.0 old at.2)))

@@ -8,7 +8,7 @@ use Rattle.dm_node.proofs.node.Node.open.Goals as goal
 
 pub invariant_of-self : goal.invariant_of-self
 invariant_of-self c =
-    let ps = c.args.self.now.neighbours.peers in
+    let ps = c.args.self.now.neighbours in
     let old = intakes_of c.args.self.now.intakes in
     let max = c.args.self.now.first_max in
     record {
@@ -17,6 +17,5 @@ invariant_of-self c =
           (held_opened c.what_is_there_stays.ensures.opened ps max c.args.conn.0 old c.args.self.now.held)
           c.args.self.now.held;
       owned = owned_same ps (owners_of c.args.self.now.intakes) (owners_of c.open.new.self) c.open.ensures.owners c.args.self.now.owned;
-      kept = c.args.self.now.kept;
       met = c.args.self.now.met;
     }

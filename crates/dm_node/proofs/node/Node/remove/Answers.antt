@@ -6,22 +6,21 @@ use Rattle.dm_node.specs.NodeKnown.{known_of, AreKnown}
 use Rattle.dm_node.specs.NodeSeen.{node_state_of}
 use Rattle.dm_node.proofs.NodeKnowing.{known_fewer}
 use Rattle.dm_node.proofs.NodeStaying.{node_is}
-use Rattle.dm_node.proofs.NodeEmptying.{held_set, kept_without}
+use Rattle.dm_node.proofs.NodeEmptying.{held_set}
 use Rattle.dm_node.proofs.Owning.{owned_set}
 use Rattle.dm_node.proofs.node.Node.remove.Goals as goal
 
 pub invariant_of-self : goal.invariant_of-self
 invariant_of-self c =
-    let ps = c.args.self.now.neighbours.peers in
+    let ps = c.args.self.now.neighbours in
     record {
       held = held_set ps _ c.args.index _ (intakes_of c.args.self.now.intakes)
           (intakes_of c.shut_held.new.intakes) c.remove-gone.ensures.without
-          (c.shut_held.ensures.shut (peer_at ps c.args.index) c.holding-held.ensures.holds) c.neighbours_are_apart.ensures.apart
+          (c.shut_held.ensures.shut (peer_at ps c.args.index) c.holding-held.ensures.holds) c.neighbours_are_sound.ensures.apart.apart
           (λ d. refl) c.args.self.now.held;
       owned = owned_set ps _ c.args.index _ c.holding-held.result (owners_of c.args.self.now.intakes) (owners_of c.shut_held.new.intakes)
-          c.remove-gone.ensures.without (λ d. refl) c.neighbours_are_apart.ensures.apart c.holding-held.ensures.holds
+          c.remove-gone.ensures.without (λ d. refl) c.neighbours_are_sound.ensures.apart.apart c.holding-held.ensures.holds
           c.shut_held.ensures.owners c.args.self.now.owned;
-      kept = kept_without ps _ c.args.index c.remove-gone.ensures.without c.args.self.now.kept;
       met = subst (AreKnown _) (sym c.forget.ensures)
           (known_fewer ps _ (known_of c.args.self.now.known) c.args.index c.args.self.now.met
           c.remove-gone.ensures.without);
@@ -29,5 +28,5 @@ invariant_of-self c =
 
 pub returns-clause-without : goal.returns-clause-without
 returns-clause-without c =
-    node_is (node_state_of c.args.self.now) _ _ _ _ _ _ c.remove-gone.ensures.node c.remove-gone.ensures.without
-    (c.shut_held.ensures.shut (peer_at c.args.self.now.neighbours.peers c.args.index) c.holding-held.ensures.holds)
+    node_is (node_state_of c.args.self.now) _ _ _ _ c.remove-gone.ensures.without
+    (c.shut_held.ensures.shut (peer_at c.args.self.now.neighbours c.args.index) c.holding-held.ensures.holds)

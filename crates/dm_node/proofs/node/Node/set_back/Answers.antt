@@ -2,24 +2,24 @@
 use Rattle.dm_slots.specs.Held.{intakes_of, owners_of}
 use Rattle.dm_node.specs.Holding.{peer_at}
 use Rattle.dm_node.specs.NodeKnown.{known_of}
-use Rattle.dm_node.proofs.NodeEmptying.{held_set, back_free}
+use Rattle.dm_node.proofs.NodeEmptying.{held_set}
 use Rattle.dm_node.proofs.NodeKnowing.{known_back}
 use Rattle.dm_node.proofs.Owning.{owned_set}
+use Rattle.dm_node.proofs.Rostered.{back_holds}
 use Rattle.dm_node.proofs.node.Node.set_back.Goals as goal
 
 pub invariant_of-self : goal.invariant_of-self
 invariant_of-self c =
-    let ps = c.args.self.now.neighbours.peers in
+    let ps = c.args.self.now.neighbours in
     record {
-      held = held_set ps c.reset_neighbour.new.neighbours.peers c.args.index _ (intakes_of c.args.self.now.intakes)
-          (intakes_of c.shut_held.new.intakes) c.reset_neighbour.ensures.back
-          (c.shut_held.ensures.shut (peer_at ps c.args.index) c.holding-held.ensures.holds) c.neighbours_are_apart.ensures.apart
-          (λ d. back_free d (peer_at ps c.args.index)) c.args.self.now.held;
-      owned = owned_set ps c.reset_neighbour.new.neighbours.peers c.args.index _ c.holding-held.result
-          (owners_of c.args.self.now.intakes) (owners_of c.shut_held.new.intakes) c.reset_neighbour.ensures.back
-          (λ d. back_free d (peer_at ps c.args.index)) c.neighbours_are_apart.ensures.apart c.holding-held.ensures.holds
+      held = held_set ps c.set_back.new.self c.args.index _ (intakes_of c.args.self.now.intakes)
+          (intakes_of c.shut_held.new.intakes) c.set_back.ensures
+          (c.shut_held.ensures.shut (peer_at ps c.args.index) c.holding-held.ensures.holds) c.neighbours_are_sound.ensures.apart.apart
+          (λ d. back_holds d (peer_at ps c.args.index)) c.args.self.now.held;
+      owned = owned_set ps c.set_back.new.self c.args.index _ c.holding-held.result
+          (owners_of c.args.self.now.intakes) (owners_of c.shut_held.new.intakes) c.set_back.ensures
+          (λ d. back_holds d (peer_at ps c.args.index)) c.neighbours_are_sound.ensures.apart.apart c.holding-held.ensures.holds
           c.shut_held.ensures.owners c.args.self.now.owned;
-      kept = c.reset_neighbour.ensures.kept;
       met = known_back ps _ (known_of c.args.self.now.known) c.args.index c.args.self.now.met
-          c.reset_neighbour.ensures.back;
+          c.set_back.ensures;
     }

@@ -8,13 +8,12 @@ use Rattle.dm_node.proofs.node.Node.shut.Goals as goal
 
 pub invariant_of-self : goal.invariant_of-self
 invariant_of-self c =
-    let ps = c.args.self.now.neighbours.peers in
+    let ps = c.args.self.now.neighbours in
     record {
       held = subst (AllHeldAreThere ps) (sym c.shut.ensures.shut)
           (held_shut c.what_is_there_stays.ensures.shut ps c.args.conn (intakes_of c.args.self.now.intakes)
           c.args.self.now.held c.requires);
       owned = owned_shut ps c.args.conn (owners_of c.args.self.now.intakes) (owners_of c.shut.new.self) c.requires c.shut.ensures.owners
           c.args.self.now.owned;
-      kept = c.args.self.now.kept;
       met = c.args.self.now.met;
     }

@@ -7,17 +7,17 @@ use Rattle.dm_node.proofs.node.Node.start_fault.Goals as goal
 
 pub returns-in-Some-clause-declined : goal.returns-in-Some-clause-declined
 returns-in-Some-clause-declined c =
-    let ps = c.args.self.now.neighbours.peers in
+    let ps = c.args.self.now.neighbours in
     let peer = c.in-Some.peer.now in
     let at = sym c.peer.ensures ∙ ap option_copied c.in-Some.is in
-    each_fault _ c.start_rule.result (start_refusal peer.standing.core.state) c.start_rule.ensures
+    each_fault _ c.peer_start_fault.result (start_refusal peer.standing.core.state) c.peer_start_fault.ensures
     (start_declined ps c.args.index c.args.conn peer at c.refusals_go_by_rule.ensures
-    (c.args.self.now.kept c.args.index peer at))
+    (c.neighbours_are_sound.ensures.kept c.args.index peer at))
 
 pub returns-in-Some-clause-rule : goal.returns-in-Some-clause-rule
 returns-in-Some-clause-rule c =
-    let ps = c.args.self.now.neighbours.peers in
+    let ps = c.args.self.now.neighbours in
     let peer = c.in-Some.peer.now in
     let at = sym c.peer.ensures ∙ ap option_copied c.in-Some.is in
-    each_fault _ c.start_rule.result (start_refusal peer.standing.core.state) c.start_rule.ensures
+    each_fault _ c.peer_start_fault.result (start_refusal peer.standing.core.state) c.peer_start_fault.ensures
     (start_ruled ps c.args.index c.args.conn peer at)

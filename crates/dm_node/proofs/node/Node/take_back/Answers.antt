@@ -9,7 +9,7 @@ use Rattle.dm_node.proofs.node.Node.take_back.Goals as goal
 
 pub invariant_of-self : goal.invariant_of-self
 invariant_of-self c =
-    let ps = c.args.self.now.neighbours.peers in
+    let ps = c.args.self.now.neighbours in
     let old = intakes_of c.args.self.now.intakes in
     record {
       held = subst (AllHeldAreThere ps) (sym c.take_back.ensures.back)
@@ -17,6 +17,5 @@ invariant_of-self c =
           c.args.self.now.held);
       owned = owned_same ps (owners_of c.args.self.now.intakes) (owners_of c.take_back.new.self)
           c.take_back.ensures.owners c.args.self.now.owned;
-      kept = c.args.self.now.kept;
       met = c.args.self.now.met;
     }

@@ -14,7 +14,7 @@ returns-in-Ok-clause-told g c =
     let at = c.requires.fault in
     let old = node_state_of c.args.self.now in
     let answer = c.tell_event.new.answer in
-    let qs = c.tell_event.new.neighbours.peers in
+    let qs = c.tell_event.new.neighbours in
     record {
       intake = at.0;
       there = at.1;
@@ -22,8 +22,8 @@ returns-in-Ok-clause-told g c =
       told = record {
         peers = qs;
         moved = c.in-Ok.ensures.told;
-        left = settled_as old c.tell_event.new.neighbours.node qs answer.neighbour answer.actions.items _ _ _
-            c.tell_event.ensures.node c.settle.ensures.settled (c.break_off.ensures.broken at.0 at.1);
+        left = settled_as old qs answer.neighbour answer.actions.items _ _ _
+            c.settle.ensures.settled (c.break_off.ensures.broken at.0 at.1);
       };
     }
 
@@ -31,10 +31,9 @@ pub invariant_of-self : goal.invariant_of-self
 invariant_of-self g c =
     record {
       held = c.settle.ensures.held;
-      owned = c.settle.ensures.owned c.args.self.now.neighbours.peers c.in-Ok.ensures.before
-          (owned_same c.args.self.now.neighbours.peers (owners_of c.args.self.now.intakes)
+      owned = c.settle.ensures.owned c.args.self.now.neighbours c.in-Ok.ensures.before
+          (owned_same c.args.self.now.neighbours (owners_of c.args.self.now.intakes)
           (owners_of c.break_off.new.self) c.break_off.ensures.owners c.args.self.now.owned);
-      kept = c.tell_event.ensures.kept;
       met = c.tell_event.ensures.places;
     }
 
@@ -49,7 +48,7 @@ pub settle-requires-clause-there : goal.settle-requires-clause-there
 settle-requires-clause-there g c =
     let at = c.requires.fault in
     let old = intakes_of c.args.self.now.intakes in
-    let qs = c.tell_event.new.neighbours.peers in
+    let qs = c.tell_event.new.neighbours in
     subst (AllHeldAreThere qs) (sym (c.break_off.ensures.broken at.0 at.1))
     (held_with c.what_is_there_stays.ensures.told qs c.args.conn.0 (broken_intake at.0) old
     (c.tell_event.ensures.held old c.args.self.now.held (arrived_there c.args.conn [] at.0 old at.1)))
