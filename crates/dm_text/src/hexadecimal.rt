@@ -10,7 +10,9 @@ ghost use Rattle.dm_text.specs.SideBySide.{bad_marks, AreRead, HasBadDigit, PutU
 ghost use Rattle.dm_text.specs.declared.hexadecimal.TheConstants.{OCTETS_AT_ONCE as octets_at_once};
 
 use crate::digit::{digit_worth, digits_of};
-use crate::lanes::{are_good, by_turns, high_digits, joined, low_digits, lower_of, marks_of};
+use crate::lanes::{
+    are_all_digits, digit_marks, high_digits, interleaved, low_digits, lower_marks, octets_of_marks,
+};
 use memchr::memchr;
 use std::alloc::{AllocError, Global};
 use std::simd::prelude::*;
@@ -35,7 +37,7 @@ pub fn read_hex_word(alloc: Global, word: &[u8]) -> Result<Option<Vec<u8>>, Allo
 
 /// Puts the octets that a word stands for in place of what `octets` holds. False where a digit is bad or their number
 /// is odd.
-pub(crate) fn fill_octets(word: &[u8], octets: &mut Vec<u8>) -> Result<bool, AllocError>
+pub(crate) fn read_hex_into(word: &[u8], octets: &mut Vec<u8>) -> Result<bool, AllocError>
     ensures { IfOk result (λ good. word_octets word.now ≡ (if good then Some octets.new.items else None)) }
 {
     if word.len() % 2 != 0 {
@@ -51,37 +53,37 @@ fn read_digits(word: &[u8], octets: &mut [u8]) -> bool
     ensures { word_octets word.now ≡ (if result then Some octets.new else None) }
 {
     if octets.len() >= 16 {
-        read_many(word, octets)
+        read_sixteen_or_more(word, octets)
     } else if octets.len() >= 8 {
-        read_ends(word, octets)
+        read_first_and_last_eight(word, octets)
     } else {
-        read_few(word, octets)
+        read_one_by_one(word, octets)
     }
 }
 
 /// Reads the digits of sixteen octets at least. False where a digit is bad.
-fn read_many(word: &[u8], octets: &mut [u8]) -> bool
+fn read_sixteen_or_more(word: &[u8], octets: &mut [u8]) -> bool
     requires twice { length word.now ≡ 2 * length octets.old }
     requires many { 16 ≤ length octets.old }
     ensures { word_octets word.now ≡ (if result then Some octets.new else None) }
 {
     let runs = (octets.len() - 1) / 16;
     let last = octets.len() - 16;
-    if !read_runs(word, octets, runs) {
+    if !read_runs_of_sixteen(word, octets, runs) {
         return false;
     }
-    are_good(read_run(word, octets, last))
+    are_all_digits(read_sixteen_at(word, octets, last))
 }
 
-/// Reads the digits of so many runs of sixteen octets. False where a digit is bad; what is behind its run isn't read.
-fn read_runs(word: &[u8], octets: &mut [u8], runs: usize) -> bool
+/// Reads the digits of so many runs of sixteen octets. False where a digit is bad; the runs behind it are not read.
+fn read_runs_of_sixteen(word: &[u8], octets: &mut [u8], runs: usize) -> bool
     requires twice { length word.now ≡ 2 * length octets.old }
     requires within { 16 * runs ≤ length octets.old }
     ensures good { result ≡ true → AreRead word.now octets.new (16 * runs) }
     ensures bad { result ≡ false → HasBadDigit word.now }
 {
     'runs: for k in 0..runs {
-        if !are_good(read_run(word, octets, 16 * k)) {
+        if !are_all_digits(read_sixteen_at(word, octets, 16 * k)) {
             return false;
         }
     }
@@ -91,38 +93,38 @@ fn read_runs(word: &[u8], octets: &mut [u8], runs: usize) -> bool
 /// Reads the digits of sixteen octets from here on, which may have been read. Gives marks that are good where each
 /// digit is.
 #[inline(always)]
-fn read_run(word: &[u8], octets: &mut [u8], from: usize) -> u8x16
+fn read_sixteen_at(word: &[u8], octets: &mut [u8], from: usize) -> u8x16
     requires twice { length word.now ≡ 2 * length octets.old }
     requires within { from + 16 ≤ length octets.old }
     ensures good { bad_marks result ≡ 0 → (i : ℕ) → from ≤ i → AreRead word.now octets.old i →
         AreRead word.now octets.new (from + 16) }
     ensures bad { ¬ (bad_marks result ≡ 0) → HasBadDigit word.now }
 {
-    let front = marks_of(u8x16::from_slice(&word[2 * from..]));
-    let back = marks_of(u8x16::from_slice(&word[2 * from + 16..]));
-    joined(front, back).copy_to_slice(&mut octets[from..]);
-    lower_of(front, back)
+    let front = digit_marks(u8x16::from_slice(&word[2 * from..]));
+    let back = digit_marks(u8x16::from_slice(&word[2 * from + 16..]));
+    octets_of_marks(front, back).copy_to_slice(&mut octets[from..]);
+    lower_marks(front, back)
 }
 
 /// Reads the digits of the first eight octets and of the last eight, which may have some in common. False where a digit
 /// is bad.
-fn read_ends(word: &[u8], octets: &mut [u8]) -> bool
+fn read_first_and_last_eight(word: &[u8], octets: &mut [u8]) -> bool
     requires twice { length word.now ≡ 2 * length octets.old }
     requires many { 8 ≤ length octets.old }
     requires few { length octets.old ≤ 16 }
     ensures { word_octets word.now ≡ (if result then Some octets.new else None) }
 {
     let last = octets.len() - 8;
-    let front = marks_of(u8x16::from_slice(word));
-    let back = marks_of(u8x16::from_slice(&word[2 * last..]));
-    let read = joined(front, back);
+    let front = digit_marks(u8x16::from_slice(word));
+    let back = digit_marks(u8x16::from_slice(&word[2 * last..]));
+    let read = octets_of_marks(front, back);
     read.extract::<0, 8>().copy_to_slice(octets);
     read.extract::<8, 8>().copy_to_slice(&mut octets[last..]);
-    are_good(lower_of(front, back))
+    are_all_digits(lower_marks(front, back))
 }
 
 /// Reads the digits one by one. False where a digit is bad.
-fn read_few(word: &[u8], octets: &mut [u8]) -> bool
+fn read_one_by_one(word: &[u8], octets: &mut [u8]) -> bool
     requires { length word.now ≡ 2 * length octets.old }
     ensures { word_octets word.now ≡ (if result then Some octets.new else None) }
 {
@@ -177,15 +179,15 @@ impl fmt::Display for Hexadecimal<'_> {
         let mut rest = self.0;
         while !rest.is_empty() {
             let (some, more) = rest.split_at(rest.len().min(OCTETS_AT_ONCE));
-            write_digits(f, some)?;
+            write_hex_piece(f, some)?;
             rest = more;
         }
         Ok(())
     }
 }
 
-/// Writes so many octets at most.
-fn write_digits<W: fmt::Write>(f: &mut fmt::Formatter<W>, octets: &[u8]) -> fmt::Result
+/// Writes octets in lower case hexadecimal, 64 at most.
+fn write_hex_piece<W: fmt::Write>(f: &mut fmt::Formatter<W>, octets: &[u8]) -> fmt::Result
     requires { length octets.now ≤ octets_at_once }
     ensures { WritesOnOk W.Write.write_str_gives f.old result (encode_lower octets.now) f.new }
 {
@@ -217,14 +219,14 @@ pub fn put_hexadecimal(text: &mut String, octets: &[u8]) -> Result<(), AllocErro
     let mut rest = octets;
     while !rest.is_empty() {
         let (some, left) = rest.split_at(rest.len().min(OCTETS_AT_ONCE));
-        put_some(text, some)?;
+        put_hex_piece(text, some)?;
         rest = left;
     }
     Ok(())
 }
 
-/// Appends so many octets at most.
-fn put_some(text: &mut String, octets: &[u8]) -> Result<(), AllocError>
+/// Appends octets in lower case hexadecimal, 64 at most.
+fn put_hex_piece(text: &mut String, octets: &[u8]) -> Result<(), AllocError>
     requires { length octets.now ≤ octets_at_once }
     ensures { OnOk result (string_bytes text.new ≡ string_bytes text.old ++ encode_lower octets.now) }
 {
@@ -249,26 +251,26 @@ fn fill_digits(octets: &[u8], room: &mut [u8])
     ensures { room.new ≡ encode_lower octets.now }
 {
     let runs = octets.len() / 16;
-    fill_runs(octets, room, runs);
-    fill_few(octets, room, 16 * runs);
+    fill_runs_of_sixteen(octets, room, runs);
+    fill_one_by_one(octets, room, 16 * runs);
 }
 
 /// Puts the digits of so many runs of sixteen octets.
-fn fill_runs(octets: &[u8], room: &mut [u8], runs: usize)
+fn fill_runs_of_sixteen(octets: &[u8], room: &mut [u8], runs: usize)
     requires twice { length room.old ≡ 2 * length octets.now }
     requires within { 16 * runs ≤ length octets.now }
     ensures { PutUpTo octets.now room.new (16 * runs) }
 {
     'runs: for k in 0..runs {
         let run = u8x16::from_slice(&octets[16 * k..]);
-        let (front, back) = by_turns(high_digits(run), low_digits(run));
+        let (front, back) = interleaved(high_digits(run), low_digits(run));
         front.copy_to_slice(&mut room[32 * k..]);
         back.copy_to_slice(&mut room[32 * k + 16..]);
     }
 }
 
 /// Puts the digits of the octets from here on.
-fn fill_few(octets: &[u8], room: &mut [u8], from: usize)
+fn fill_one_by_one(octets: &[u8], room: &mut [u8], from: usize)
     requires twice { length room.old ≡ 2 * length octets.now }
     requires within { from ≤ length octets.now }
     requires put { PutUpTo octets.now room.old from }

@@ -10,7 +10,7 @@ const DIGITS: [u8; 16] = *b"0123456789abcdef";
 
 /// A mark for each digit: 240 and its value in either case; less than 240 where the octet is none.
 #[inline(always)]
-pub(crate) fn marks_of(digits: u8x16) -> u8x16
+pub(crate) fn digit_marks(digits: u8x16) -> u8x16
     ensures { map worth_of_mark result ≡ map digit_worth digits }
 {
     let numbers = (digits + u8x16::splat(198)).saturating_sub(u8x16::splat(6));
@@ -20,7 +20,7 @@ pub(crate) fn marks_of(digits: u8x16) -> u8x16
 
 /// Whether each of the marks is a digit's.
 #[inline(always)]
-pub(crate) fn are_good(marks: u8x16) -> bool
+pub(crate) fn are_all_digits(marks: u8x16) -> bool
     ensures { result ≡ (bad_marks marks == 0) }
 {
     marks.simd_lt(u8x16::splat(240)).to_bitmask() == 0
@@ -28,7 +28,7 @@ pub(crate) fn are_good(marks: u8x16) -> bool
 
 /// The lower mark of each lane: a digit's where both are.
 #[inline(always)]
-pub(crate) fn lower_of(marks: u8x16, others: u8x16) -> u8x16
+pub(crate) fn lower_marks(marks: u8x16, others: u8x16) -> u8x16
     ensures both { bad_marks result ≡ 0 → (bad_marks marks ≡ 0) × (bad_marks others ≡ 0) }
     ensures each { bad_marks marks ≡ 0 → bad_marks others ≡ 0 → bad_marks result ≡ 0 }
 {
@@ -37,7 +37,7 @@ pub(crate) fn lower_of(marks: u8x16, others: u8x16) -> u8x16
 
 /// The octets that thirty-two digits with these marks stand for, two by two. Marks that are no digit's give any.
 #[inline(always)]
-pub(crate) fn joined(front: u8x16, back: u8x16) -> u8x16
+pub(crate) fn octets_of_marks(front: u8x16, back: u8x16) -> u8x16
     ensures { bad_marks front ≡ 0 → bad_marks back ≡ 0 →
         result ≡ paired (map worth_of_mark front ++ map worth_of_mark back) }
 {
@@ -72,7 +72,7 @@ pub(crate) fn low_digits(octets: u8x16) -> u8x16
 
 /// The lanes by turns, one of the first, one of the second: those that come of the first eight of each, and the others.
 #[inline(always)]
-pub(crate) fn by_turns(firsts: u8x16, seconds: u8x16) -> (u8x16, u8x16)
+pub(crate) fn interleaved(firsts: u8x16, seconds: u8x16) -> (u8x16, u8x16)
     ensures { result.0 ++ result.1 ≡ by_turns firsts seconds }
 {
     firsts.interleave(seconds)

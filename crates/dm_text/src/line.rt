@@ -80,7 +80,7 @@ fn without_carriage_return(line: &[u8]) -> &[u8]
 pub fn trim(line: &[u8]) -> &[u8]
     ensures { result.now ≡ trimmed line.now }
 {
-    let mut rest = after_spaces(line);
+    let mut rest = without_leading_spaces(line);
     'back: while let [more @ .., b' '] = rest {
         rest = more;
     }
@@ -88,7 +88,7 @@ pub fn trim(line: &[u8]) -> &[u8]
 }
 
 /// The line from its first octet that is no space on.
-pub fn after_spaces(line: &[u8]) -> &[u8]
+pub fn without_leading_spaces(line: &[u8]) -> &[u8]
     ensures { result.now ≡ drop_spaces line.now }
 {
     let mut rest = line;

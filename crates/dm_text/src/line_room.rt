@@ -3,7 +3,7 @@ ghost use Rattle.std.specs.Prelude.{◌≡◌, IfOk};
 ghost use Rattle.std.specs.Option.{option_map};
 ghost use Rattle.dm_text.specs.Hexadecimal.{line_octets};
 
-use crate::hexadecimal::{fill_octets, has_no_space, take_out_spaces};
+use crate::hexadecimal::{has_no_space, read_hex_into, take_out_spaces};
 use std::alloc::{AllocError, Global};
 
 /// Room for one line of hexadecimal at a time. What it holds doesn't matter to the next line.
@@ -31,10 +31,10 @@ impl LineRoom {
         ensures { IfOk result (λ octets. option_map (λ o. o.now) octets ≡ line_octets line.now) }
     {
         let good = if has_no_space(line) {
-            fill_octets(line, &mut self.octets)?
+            read_hex_into(line, &mut self.octets)?
         } else {
             take_out_spaces(line, &mut self.digits)?;
-            fill_octets(self.digits.as_slice(), &mut self.octets)?
+            read_hex_into(self.digits.as_slice(), &mut self.octets)?
         };
         if good {
             Ok(Some(self.octets.as_slice()))

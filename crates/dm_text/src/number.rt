@@ -7,7 +7,7 @@ pub fn read_number(word: &[u8]) -> Option<u32>
     ensures told { IfSome result (λ n. TellsNumber n word.now) }
     ensures none { IfNone result ((n : ℕ) → TellsNumber n word.now → ⊥) }
 {
-    match number_up_to(word, u64::from(u32::MAX)) {
+    match read_number_up_to(word, u64::from(u32::MAX)) {
         Some(number) => Some(number as u32),
         None => None,
     }
@@ -18,11 +18,11 @@ pub fn read_long_number(word: &[u8]) -> Option<u64>
     ensures told { IfSome result (λ n. TellsLongNumber n word.now) }
     ensures none { IfNone result ((n : ℕ) → TellsLongNumber n word.now → ⊥) }
 {
-    number_up_to(word, u64::MAX)
+    read_number_up_to(word, u64::MAX)
 }
 
 /// The number that a word tells, at most this one.
-fn number_up_to(word: &[u8], most: u64) -> Option<u64>
+fn read_number_up_to(word: &[u8], most: u64) -> Option<u64>
     requires { 9 ≤ most }
     ensures told { IfSome result (λ n. TellsUpTo most n word.now) }
     ensures none { IfNone result ((n : ℕ) → TellsUpTo most n word.now → ⊥) }

@@ -3,7 +3,7 @@ ghost use Rattle.std.specs.Prelude.{◌≡◌, ◌==◌, position};
 ghost use Rattle.std.specs.Iterator.{YieldsFirstRef, item_count};
 ghost use Rattle.dm_text.specs.Words.{words};
 
-use crate::line::after_spaces;
+use crate::line::without_leading_spaces;
 use memchr::memchr;
 use std::marker::Model;
 
@@ -40,12 +40,12 @@ impl<'a> Iterator for Words<'a> {
     ghost remaining = { item_count (λ s. words s) };
 
     fn next(&mut self) -> Option<&'a [u8]> {
-        let rest = after_spaces(self.rest);
+        let rest = without_leading_spaces(self.rest);
         if rest.is_empty() {
             self.rest = rest;
             return None;
         }
-        match space(rest) {
+        match first_space(rest) {
             Some(end) => {
                 self.rest = &rest[end + 1..];
                 Some(&rest[..end])
@@ -58,7 +58,7 @@ impl<'a> Iterator for Words<'a> {
     }
 }
 
-fn space(line: &[u8]) -> Option<usize>
+fn first_space(line: &[u8]) -> Option<usize>
     ensures { result ≡ position (λ b. b == 32) line.now }
 {
     memchr(b' ', line)
