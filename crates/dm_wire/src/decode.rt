@@ -6,10 +6,10 @@ ghost use Rattle.dm_wire.specs.declared.fault.WireFault.{WireFault};
 ghost use Rattle.dm_wire.specs.Spelling.{SpellsList, SpellsMessage};
 ghost use Rattle.dm_wire.specs.Refusal.{IsTooShort, IsOtherVersion, IsOtherLength, IsBadAt, Refuses};
 
-use crate::front::{copy_extent, first_extent};
+use crate::front::{copy_first_avp, first_avp_extent};
 use crate::message_ref::HEADER_LEN;
 use crate::read::read_header;
-use crate::walk::walk_avps;
+use crate::walk::check_avps;
 use crate::{Avp, AvpList, Message, MessageRef, WireFault};
 use std::alloc::{AllocError, Global};
 
@@ -17,12 +17,12 @@ use std::alloc::{AllocError, Global};
 const SHORT_LIST: usize = 25;
 
 /// How many AVPs the octets begin with, or 0 where they are more than a short list has.
-fn short_count(octets: &[u8]) -> usize
+fn count_avps_if_few(octets: &[u8]) -> usize
     ensures { result ≤ 25 }
 {
     let mut left = octets;
     for count in 0..SHORT_LIST + 1 {
-        let Some(extent) = first_extent(left) else {
+        let Some(extent) = first_avp_extent(left) else {
             return count;
         };
         left = &left[extent.size..];
@@ -38,9 +38,9 @@ fn push_avps(alloc: Global, avps: &mut Vec<Avp>, octets: &[u8]) -> Result<bool, 
     ensures { result ≡ Ok true → SpellsList avps.new.items octets.now }
 {
     let mut left = octets;
-    while let Some(extent) = first_extent(left) {
+    while let Some(extent) = first_avp_extent(left) {
         avps.reserve(1)?;
-        avps.push_reserved(copy_extent(alloc, left, extent)?);
+        avps.push_reserved(copy_first_avp(alloc, left, extent)?);
         left = &left[extent.size..];
     }
     Ok(left.is_empty())
@@ -50,7 +50,7 @@ fn push_avps(alloc: Global, avps: &mut Vec<Avp>, octets: &[u8]) -> Result<bool, 
 fn copy_avps(alloc: Global, octets: &[u8]) -> Option<Vec<Avp>>
     ensures { IfSome result (λ avps. SpellsList avps.items octets.now) }
 {
-    let mut avps = Vec::with_capacity(alloc, short_count(octets)).ok()?;
+    let mut avps = Vec::with_capacity(alloc, count_avps_if_few(octets)).ok()?;
     match push_avps(alloc, &mut avps, octets) {
         Ok(true) => Some(avps),
         _ => None,
@@ -62,7 +62,7 @@ fn list_fault(octets: &[u8]) -> WireFault
     ensures { ((l : List Avp) × (result ≡ WireFault.NoMemory) × SpellsList l octets.now)
         ⊎ ((o : ℕ) × (result ≡ WireFault.AvpLength o) × IsBadAt 0 octets.now o) }
 {
-    match walk_avps(octets) {
+    match check_avps(octets) {
         Ok(_) => WireFault::NoMemory,
         Err(offset) => WireFault::AvpLength(offset),
     }

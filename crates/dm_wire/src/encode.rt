@@ -5,8 +5,8 @@ ghost use Rattle.dm_wire.specs.Canonical.{canonical_list, canonical_header, cano
 ghost use Rattle.dm_wire.specs.Limits.{IsLongList, IsLongMessage};
 
 use crate::codes::limits::{HEADER_LEN, MAX_MESSAGE_LEN};
-use crate::put::{header_octets, push_list, write_message};
-use crate::size::list_size;
+use crate::put::{header_octets, push_avp_list, write_message};
+use crate::size::avp_list_size;
 use crate::{Avp, Message, WireFault};
 use std::alloc::Global;
 
@@ -30,16 +30,16 @@ pub fn encode_avps(alloc: Global, avps: &[Avp]) -> Result<Vec<u8>, WireFault>
     ensures unspelled { IsErrOf result WireFault.TooLong ↔ ((s : List ℕ) → SpellsList avps.now s → ⊥) }
     ensures fault { IfErr result (λ fault. (fault ≡ WireFault.TooLong) ⊎ (fault ≡ WireFault.NoMemory)) }
 {
-    let Some(size) = list_size(avps) else {
+    let Some(size) = avp_list_size(avps) else {
         return Err(WireFault::TooLong);
     };
     let mut list = Vec::with_capacity(alloc, size)?;
-    push_list(&mut list, avps)?;
+    push_avp_list(&mut list, avps)?;
     Ok(list)
 }
 
 /// How many octets the AVPs of a message take. `None` where the Length of one, or the Message Length, doesn't fit.
-fn message_rest(avps: &[Avp]) -> Option<usize>
+fn message_avps_size(avps: &[Avp]) -> Option<usize>
     ensures size { IfSome result (λ n. n ≡ length (canonical_list avps.now)) }
     ensures fits { IfSome result (λ n. n ≤ MAX_REST) }
     ensures spelled { IfSome result (λ n. SpellsList avps.now (canonical_list avps.now)) }
@@ -49,7 +49,7 @@ fn message_rest(avps: &[Avp]) -> Option<usize>
     if avps.len() > MAX_AVPS {
         return None;
     }
-    let rest = list_size(avps)?;
+    let rest = avp_list_size(avps)?;
     if rest > MAX_REST {
         return None;
     }
@@ -58,14 +58,14 @@ fn message_rest(avps: &[Avp]) -> Option<usize>
 
 /// The header of the message as octets, and how many octets the whole takes. `None` where a field is
 /// too small for what it must hold.
-fn sized_header(message: &Message) -> Option<([u8; 20], usize)>
+fn header_and_size(message: &Message) -> Option<([u8; 20], usize)>
     ensures header { IfSome result (λ sized. sized.0 ≡ canonical_header message.now.header (message_size message.now)) }
     ensures size { IfSome result (λ sized. sized.1 ≡ message_size message.now) }
     ensures list { IfSome result (λ sized. SpellsList message.now.avps (canonical_list message.now.avps)) }
     ensures spelled { IfSome result (λ sized. SpellsMessage message.now (canonical_message message.now)) }
     ensures none { IfNone result (IsLongMessage message.now) }
 {
-    let rest = message_rest(message.avps.as_slice())?;
+    let rest = message_avps_size(message.avps.as_slice())?;
     let size = HEADER_LEN as usize + rest;
     let header = header_octets(message.header, size as u32)?;
     Some((header, size))
@@ -85,7 +85,7 @@ impl Message {
         ensures unspelled { IsErrOf result WireFault.TooLong ↔ ((s : List ℕ) → SpellsMessage self.now s → ⊥) }
         ensures fault { IfErr result (λ fault. (fault ≡ WireFault.TooLong) ⊎ (fault ≡ WireFault.NoMemory)) }
     {
-        let Some(sized) = sized_header(self) else {
+        let Some(sized) = header_and_size(self) else {
             return Err(WireFault::TooLong);
         };
         let (header, size) = sized;

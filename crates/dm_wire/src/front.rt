@@ -33,7 +33,7 @@ fn flags_and_length(octets: &[u8]) -> (u32, usize)
 }
 
 /// How far the AVP at the front goes; `None` where no AVP begins there. It never answers want of memory.
-pub(crate) fn first_extent(octets: &[u8]) -> Option<Extent>
+pub(crate) fn first_avp_extent(octets: &[u8]) -> Option<Extent>
     ensures found { IfSome result (λ extent. IsExtent extent octets.now) }
     ensures members { IfSome result (λ extent.
         members octets.now ≡ option_map (λ l. avp_at octets.now ∷ l) (members (drop extent.size octets.now))) }
@@ -77,7 +77,11 @@ pub(crate) fn avp_of_extent(octets: &[u8], extent: Extent) -> AvpRef<'_>
 /// The AVP at the front, which goes so far, with a copy of its data; or want of memory.
 ///
 /// The data comes first and the header behind it, so that no field waits while memory is asked for.
-pub(crate) fn copy_extent(alloc: Global, octets: &[u8], extent: Extent) -> Result<Avp, AllocError>
+pub(crate) fn copy_first_avp(
+    alloc: Global,
+    octets: &[u8],
+    extent: Extent,
+) -> Result<Avp, AllocError>
     requires { IsExtent extent octets.now }
     ensures { IfOk result (λ avp. avp ≡ avp_at octets.now) }
 {

@@ -6,7 +6,7 @@ ghost use Rattle.dm_wire.specs.Members.{members};
 ghost use Rattle.dm_wire.specs.Borrowed.{avp_of, Lists, size_of};
 
 use crate::read::first_avp;
-use crate::walk::walk_avps;
+use crate::walk::check_avps;
 use crate::{Avp, AvpRef};
 
 /// AVPs in order, where they lie.
@@ -33,7 +33,7 @@ pub(crate) fn first_member(octets: &[u8]) -> Option<(AvpRef<'_>, usize)>
 pub fn spells_avps(octets: &[u8]) -> bool
     ensures { result ≡ is_some (members octets.now) }
 {
-    walk_avps(octets).is_ok()
+    check_avps(octets).is_ok()
 }
 
 impl<'a> AvpsRef<'a> {

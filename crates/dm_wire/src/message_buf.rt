@@ -9,7 +9,7 @@ ghost use Rattle.dm_wire.specs.Spelling.{SpellsList, SpellsMessage};
 ghost use Rattle.dm_wire.specs.Refusal.{Refuses};
 
 use crate::message_ref::HEADER_LEN;
-use crate::places::{avp_at, first_of, places_of};
+use crate::places::{avp_at, avp_places, first_matching_avp};
 use crate::{AvpRef, Header, MessageRef, WireFault};
 use std::alloc::Global;
 use std::marker::Model;
@@ -60,7 +60,7 @@ impl MessageBuf {
             Ok(message) => message.header,
             Err(fault) => return Err(fault),
         };
-        match places_of(alloc, &octets[HEADER_LEN..]) {
+        match avp_places(alloc, &octets[HEADER_LEN..]) {
             Ok(places) => Ok(MessageBuf {
                 header,
                 octets,
@@ -112,7 +112,7 @@ impl MessageBuf {
         ensures { (m : Message) → SpellsMessage m self.now
             → option_map avp_of result ≡ find (is_of code vendor) m.avps }
     {
-        first_of(
+        first_matching_avp(
             &self.octets[HEADER_LEN..],
             self.places.as_slice(),
             code,

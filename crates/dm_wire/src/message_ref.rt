@@ -8,7 +8,7 @@ ghost use Rattle.dm_wire.specs.Spelling.{SpellsList, SpellsMessage};
 ghost use Rattle.dm_wire.specs.Refusal.{IsTooShort, IsOtherVersion, IsOtherLength, IsBadAt, Refuses};
 
 use crate::read::read_header;
-use crate::walk::walk_avps;
+use crate::walk::check_avps;
 use crate::{Header, WireFault};
 
 /// The octets that a header takes.
@@ -25,7 +25,7 @@ pub struct MessageRef<'a> {
 }
 
 /// The message that the octets spell, or what is wrong with them.
-fn read_spelled(octets: &[u8]) -> Result<MessageRef<'_>, WireFault>
+fn read_message_ref(octets: &[u8]) -> Result<MessageRef<'_>, WireFault>
     ensures found { IfOk result (λ read. (avps : List Avp) × SpellsList avps read.rest.now
         × SpellsMessage (record { header = read.header; avps = avps }) octets.now) }
     ensures rest { IfOk result (λ read. read.rest.now ≡ drop 20 octets.now) }
@@ -35,7 +35,7 @@ fn read_spelled(octets: &[u8]) -> Result<MessageRef<'_>, WireFault>
 {
     let header = read_header(octets)?;
     let rest = &octets[HEADER_LEN..];
-    match walk_avps(rest) {
+    match check_avps(rest) {
         Ok(()) => Ok(MessageRef { header, rest }),
         Err(offset) => Err(WireFault::AvpLength(HEADER_LEN + offset)),
     }
@@ -64,7 +64,7 @@ impl<'a> MessageRef<'a> {
         ensures fault { IfErr result (Refuses octets.now) }
         ensures refuses { (fault : WireFault) → Refuses octets.now fault → IsErrOf result fault }
     {
-        let read = read_spelled(octets)?;
+        let read = read_message_ref(octets)?;
         Ok(read)
     }
 }

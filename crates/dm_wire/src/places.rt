@@ -9,7 +9,7 @@ ghost use Rattle.dm_wire.specs.Finding.{is_of};
 ghost use Rattle.dm_wire.specs.Held.{ArePlaces};
 
 use crate::AvpRef;
-use crate::front::{avp_of_extent, first_extent};
+use crate::front::{avp_of_extent, first_avp_extent};
 use std::alloc::{AllocError, Global};
 
 /// The fewest octets of an AVP: a header without a Vendor-ID, and no data.
@@ -17,14 +17,14 @@ const LEAST_AVP: usize = 8;
 
 /// The place of each AVP of the octets, which are AVPs one after the other: the offset of its first octet. Their list
 /// takes its room at once.
-pub(crate) fn places_of(alloc: Global, octets: &[u8]) -> Result<Vec<usize>, AllocError>
+pub(crate) fn avp_places(alloc: Global, octets: &[u8]) -> Result<Vec<usize>, AllocError>
     requires { is_some (members octets.now) ≡ true }
     ensures { IfOk result (λ places. (avps : List Avp) → members octets.now ≡ Some avps
         → ArePlaces places.items avps octets.now) }
 {
     let mut places = Vec::with_capacity(alloc, octets.len() / LEAST_AVP)?;
     let mut place = 0;
-    while let Some(extent) = first_extent(&octets[place..]) {
+    while let Some(extent) = first_avp_extent(&octets[place..]) {
         places.push(place)?;
         place += extent.size;
     }
@@ -40,26 +40,31 @@ pub(crate) fn avp_at(octets: &[u8], place: usize) -> Option<AvpRef<'_>>
         return None;
     }
     let left = &octets[place..];
-    let extent = first_extent(left)?;
+    let extent = first_avp_extent(left)?;
     Some(avp_of_extent(left, extent))
 }
 
 /// Whether the AVP is of this code and vendor.
-fn is_sought(avp: AvpRef<'_>, code: u32, vendor: Option<u32>) -> bool
+fn has_code_and_vendor(avp: AvpRef<'_>, code: u32, vendor: Option<u32>) -> bool
     ensures { result ≡ is_of code vendor (avp_of avp.entry) }
 {
     avp.code == code && avp.vendor == vendor
 }
 
 /// The AVP that begins at the place, where it is of this code and vendor.
-fn sought_at(octets: &[u8], place: usize, code: u32, vendor: Option<u32>) -> Option<AvpRef<'_>>
+fn matching_avp_at(
+    octets: &[u8],
+    place: usize,
+    code: u32,
+    vendor: Option<u32>,
+) -> Option<AvpRef<'_>>
     ensures found { IfSome result (λ avp. (avps : List Avp) → members (drop place octets.now) ≡ Some avps
         → find (is_of code vendor) avps ≡ Some (avp_of avp)) }
     ensures passed { IfNone result ((avps : List Avp) → members (drop place octets.now) ≡ Some avps
         → find (is_of code vendor) avps ≡ find (is_of code vendor) (drop 1 avps)) }
 {
     let avp = avp_at(octets, place)?;
-    if is_sought(avp, code, vendor) {
+    if has_code_and_vendor(avp, code, vendor) {
         Some(avp)
     } else {
         None
@@ -67,7 +72,7 @@ fn sought_at(octets: &[u8], place: usize, code: u32, vendor: Option<u32>) -> Opt
 }
 
 /// The first AVP of this code and vendor, of those that begin at the places. It never answers want of memory.
-pub(crate) fn first_of<'a>(
+pub(crate) fn first_matching_avp<'a>(
     octets: &'a [u8],
     places: &[usize],
     code: u32,
@@ -77,7 +82,7 @@ pub(crate) fn first_of<'a>(
         → option_map avp_of result ≡ find (is_of code vendor) avps }
 {
     for place in places {
-        if let Some(avp) = sought_at(octets, *place, code, vendor) {
+        if let Some(avp) = matching_avp_at(octets, *place, code, vendor) {
             return Some(avp);
         }
     }

@@ -43,7 +43,7 @@ impl fmt::Display for AvpFront<'_> {
     fn fmt<W: fmt::Write>(&self, f: &mut fmt::Formatter<W>) -> fmt::Result {
         let vendor = VendorText(self.0.vendor);
         let letters = avp_letters(self.0.vendor.is_some(), self.0.mandatory, self.0.protected);
-        let letters = text_of(&letters);
+        let letters = ascii_text(&letters);
         write!(f, "{}{vendor} {letters}", self.0.code)
     }
 }
@@ -77,7 +77,7 @@ impl fmt::Display for Header {
     #[tactic(auto, unfolding(crate::specs::Printed::header_text))]
     fn fmt<W: fmt::Write>(&self, f: &mut fmt::Formatter<W>) -> fmt::Result {
         let letters = header_letters(*self);
-        let letters = text_of(&letters);
+        let letters = ascii_text(&letters);
         write!(f, "message {} {letters}", self.command)?;
         write!(f, " app {}", self.application)?;
         write!(f, " hop {} end {}", self.hop_id, self.end_id)
@@ -85,7 +85,7 @@ impl fmt::Display for Header {
 }
 
 /// Letters as text.
-fn text_of(letters: &[u8]) -> &str
+fn ascii_text(letters: &[u8]) -> &str
     requires { IsAscii letters.now }
     ensures { result.now ≡ letters.now }
 {

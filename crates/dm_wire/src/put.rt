@@ -15,7 +15,7 @@ use byteorder::{BigEndian, ByteOrder};
 use std::alloc::AllocError;
 
 /// What a bit of this value adds to the flag octet.
-fn bit(set: bool, value: u8) -> u8
+fn flag_bit(set: bool, value: u8) -> u8
     ensures { result ≡ worth set value }
 {
     if set { value } else { 0 }
@@ -25,7 +25,9 @@ fn bit(set: bool, value: u8) -> u8
 fn avp_flag_octet(avp: AvpRef<'_>) -> u8
     ensures { result ≡ avp_flags (avp_of avp.entry) }
 {
-    bit(avp.vendor.is_some(), 0x80) | bit(avp.mandatory, 0x40) | bit(avp.protected, 0x20)
+    flag_bit(avp.vendor.is_some(), 0x80)
+        | flag_bit(avp.mandatory, 0x40)
+        | flag_bit(avp.protected, 0x20)
 }
 
 /// The first eight octets of the header of the AVP with this Length.
@@ -71,7 +73,7 @@ fn push_padding(out: &mut Vec<u8>, length: usize) -> Result<(), AllocError>
 
 /// The AVP, whose Length this is and fits its field, appended.
 #[inline(always)]
-fn push_fitting(out: &mut Vec<u8>, avp: AvpRef<'_>, length: usize) -> Result<(), AllocError>
+fn push_fitting_avp(out: &mut Vec<u8>, avp: AvpRef<'_>, length: usize) -> Result<(), AllocError>
     requires length { length ≡ avp_length (avp_of avp) }
     requires fits { avp_length (avp_of avp) < 256 ^ 3 }
     ensures { OnOk result (out.new.items ≡ out.old.items ++ canonical_avp (avp_of avp.entry)) }
@@ -100,19 +102,19 @@ pub fn push_avp(out: &mut Vec<u8>, avp: AvpRef<'_>) -> Result<(), WireFault>
     if length > MAX_AVP_LEN as usize {
         return Err(WireFault::TooLong);
     }
-    push_fitting(out, avp, length)?;
+    push_fitting_avp(out, avp, length)?;
     Ok(())
 }
 
 /// The AVPs, appended one after the other.
-pub(crate) fn push_list(out: &mut Vec<u8>, avps: &[Avp]) -> Result<(), AllocError>
+pub(crate) fn push_avp_list(out: &mut Vec<u8>, avps: &[Avp]) -> Result<(), AllocError>
     requires { SpellsList avps.now (canonical_list avps.now) }
     ensures { OnOk result (out.new.items ≡ out.old.items ++ canonical_list avps.now) }
 {
     let mut left = avps;
     while let [avp, rest @ ..] = left {
         let avp = avp.borrowed();
-        push_fitting(out, avp, header_len(avp.vendor) + avp.bytes.len())?;
+        push_fitting_avp(out, avp, header_len(avp.vendor) + avp.bytes.len())?;
         left = rest;
     }
     Ok(())
@@ -122,10 +124,10 @@ pub(crate) fn push_list(out: &mut Vec<u8>, avps: &[Avp]) -> Result<(), AllocErro
 fn header_flag_octet(header: Header) -> u8
     ensures { result ≡ header_flags header }
 {
-    bit(header.request, 0x80)
-        | bit(header.proxiable, 0x40)
-        | bit(header.error, 0x20)
-        | bit(header.retransmit, 0x10)
+    flag_bit(header.request, 0x80)
+        | flag_bit(header.proxiable, 0x40)
+        | flag_bit(header.error, 0x20)
+        | flag_bit(header.retransmit, 0x10)
 }
 
 /// The header of a message of this many octets, with zero reserved bits (RFC 6733, 3). `None` where the Command Code
@@ -151,7 +153,7 @@ pub fn header_octets(header: Header, size: u32) -> Option<[u8; 20]>
 
 /// The AVP, whose Length this is and fits its field, written in the room, which is as long as it and zero.
 #[inline(always)]
-fn write_fitting(room: &mut [u8], avp: AvpRef<'_>, length: usize)
+fn write_fitting_avp(room: &mut [u8], avp: AvpRef<'_>, length: usize)
     requires length { length ≡ avp_length (avp_of avp) }
     requires fits { avp_length (avp_of avp) < 256 ^ 3 }
     requires zero { room.old ≡ replicate ((length + 3) / 4 * 4) 0 }
@@ -169,7 +171,7 @@ fn write_fitting(room: &mut [u8], avp: AvpRef<'_>, length: usize)
 }
 
 /// The AVPs, written one after the other in the room, which is as long as they and zero.
-fn write_list(room: &mut [u8], avps: &[Avp])
+fn write_avp_list(room: &mut [u8], avps: &[Avp])
     requires spelled { SpellsList avps.now (canonical_list avps.now) }
     requires zero { room.old ≡ replicate (length (canonical_list avps.now)) 0 }
     ensures { room.new ≡ canonical_list avps.now }
@@ -180,7 +182,7 @@ fn write_list(room: &mut [u8], avps: &[Avp])
         let avp = avp.borrowed();
         let length = header_len(avp.vendor) + avp.bytes.len();
         let end = place + (length + 3) / 4 * 4;
-        write_fitting(&mut room[place..end], avp, length);
+        write_fitting_avp(&mut room[place..end], avp, length);
         place = end;
         left = rest;
     }
@@ -193,5 +195,5 @@ pub(crate) fn write_message(room: &mut [u8], header: &[u8; 20], avps: &[Avp])
     ensures { room.new ≡ header.now ++ canonical_list avps.now }
 {
     room[..20].copy_from_slice(header);
-    write_list(&mut room[20..], avps);
+    write_avp_list(&mut room[20..], avps);
 }

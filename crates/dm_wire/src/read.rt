@@ -5,7 +5,7 @@ ghost use Rattle.dm_wire.specs.Spelling.{SpellsAvp, SpellsHeader};
 ghost use Rattle.dm_wire.specs.Borrowed.{avp_of};
 ghost use Rattle.dm_wire.specs.Refusal.{BeginsWithNoAvp, IsTooShort, IsOtherVersion, IsOtherLength};
 
-use crate::front::{avp_of_extent, first_extent};
+use crate::front::{avp_of_extent, first_avp_extent};
 use crate::{AvpRef, Header, WireFault};
 use byteorder::{BigEndian, ByteOrder};
 
@@ -26,7 +26,7 @@ pub fn first_avp(octets: &[u8]) -> Option<(AvpRef<'_>, usize)>
     ensures found { IfSome result (λ read. SpellsAvp (avp_of read.0) (take read.1 octets.now)) }
     ensures none { IfNone result (BeginsWithNoAvp octets.now) }
 {
-    let extent = first_extent(octets)?;
+    let extent = first_avp_extent(octets)?;
     Some((avp_of_extent(octets, extent), extent.size))
 }
 

@@ -57,7 +57,7 @@ fn avp_len(avp: &Avp) -> usize
 }
 
 /// 1 for a Length that its field doesn't hold, else 0: a number to add up, and no branch.
-fn too_long(length: usize) -> usize
+fn one_if_too_long(length: usize) -> usize
     ensures one { result ≤ 1 }
     ensures none { result ≡ 0 → length ≤ max_avp_len }
     ensures some { 0 < result → max_avp_len < length }
@@ -68,7 +68,7 @@ fn too_long(length: usize) -> usize
 /// The octets that the AVPs take, of which the lowest 64 bits are told. `None` where the Length of one doesn't fit.
 ///
 /// The loop has neither a branch nor an end before the last AVP, so that it becomes vector code.
-pub(crate) fn list_size(avps: &[Avp]) -> Option<usize>
+pub(crate) fn avp_list_size(avps: &[Avp]) -> Option<usize>
     ensures some { IfSome result (λ n. n ≡ length (canonical_list avps.now) % 2 ^ 64) }
     ensures spelled { IfSome result (λ n. SpellsList avps.now (canonical_list avps.now)) }
     ensures none { IfNone result (IsLongList avps.now) }
@@ -77,7 +77,7 @@ pub(crate) fn list_size(avps: &[Avp]) -> Option<usize>
     let mut long: usize = 0;
     for avp in avps {
         let length = avp_len(avp);
-        long += too_long(length);
+        long += one_if_too_long(length);
         size = size.wrapping_add((length + 3) / 4 * 4);
     }
     if long == 0 { Some(size) } else { None }

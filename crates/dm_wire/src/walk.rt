@@ -73,7 +73,7 @@ impl<'a> Iterator for AvpWalk<'a> {
 }
 
 /// Whether the octets are AVPs, one after the other; else the first bad octet. It never answers want of memory.
-pub(crate) fn walk_avps(octets: &[u8]) -> Result<(), usize>
+pub(crate) fn check_avps(octets: &[u8]) -> Result<(), usize>
     ensures list { OnOk result ((l : List Avp) × SpellsList l octets.now) }
     ensures some { OnOk result (is_some (members octets.now) ≡ true) }
     ensures bad { IfErr result (IsBadAt 0 octets.now) }

@@ -11,7 +11,7 @@ loop-extent-preserved c =
     let n = c.in-Some.extent.size in
     rw (take_rest left n)
     (pushed c.args.octets.now left n c.loop-extent.avps.items _ _ _ c.loop-extent.invariant
-    c.in-Some.ensures.members c.in_ok-copy_extent.ensures
+    c.in-Some.ensures.members c.in_ok-copy_first_avp.ensures
     (rw c.reserve.ensures.items at c.push_reserved.ensures.items))
 
 pub returns : goal.returns

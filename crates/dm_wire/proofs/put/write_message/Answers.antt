@@ -4,8 +4,8 @@ use Rattle.dm_wire.specs.Canonical.{canonical_list}
 use Rattle.dm_wire.proofs.Written.{list_room, list_written}
 use Rattle.dm_wire.proofs.put.write_message.Goals as goal
 
-pub write_list-requires-clause-zero : goal.write_list-requires-clause-zero
-write_list-requires-clause-zero c =
+pub write_avp_list-requires-clause-zero : goal.write_avp_list-requires-clause-zero
+write_avp_list-requires-clause-zero c =
     let header : length c.args.header.now ≡ 20 = search rules in
     list_room c.copy_from_slice.new.self c.args.room.now 20 (length (canonical_list c.args.avps.now))
     (ap length c.copy_from_slice.ensures.after ∙ header) c.requires.zero
@@ -14,6 +14,6 @@ pub returns : goal.returns
 returns c =
     let header : length c.args.header.now ≡ 20 = search rules in
     let size = ap length c.copy_from_slice.ensures.after ∙ header in
-    list_written c.copy_from_slice.new.self (drop 20 c.args.room.now) c.write_list.new.room 20 size
-    ∙ ap (λ h. h ++ c.write_list.new.room) c.copy_from_slice.ensures.after
-    ∙ ap (λ l. c.args.header.now ++ l) c.write_list.ensures
+    list_written c.copy_from_slice.new.self (drop 20 c.args.room.now) c.write_avp_list.new.room 20 size
+    ∙ ap (λ h. h ++ c.write_avp_list.new.room) c.copy_from_slice.ensures.after
+    ∙ ap (λ l. c.args.header.now ++ l) c.write_avp_list.ensures

@@ -3,7 +3,7 @@ use Rattle.std.proofs.Common.{◌≤◌, rules, length}
 use Rattle.dm_wire.specs.Spelling.{avp_header_len}
 use Rattle.dm_wire.specs.Members.{vendor_at, length_at, padded}
 use Rattle.dm_wire.proofs.Members.{members_begun}
-use Rattle.dm_wire.proofs.front.first_extent.Goals as goal
+use Rattle.dm_wire.proofs.front.first_avp_extent.Goals as goal
 
 pub returns-clause-members : goal.returns-clause-members
 returns-clause-members c =

@@ -2,7 +2,7 @@
 use Rattle.std.proofs.Common.{◌∙◌}
 use Rattle.dm_wire.specs.Borrowed.{avp_of}
 use Rattle.dm_wire.proofs.Written.{written_alone, written_with}
-use Rattle.dm_wire.proofs.put.write_fitting.Goals as goal
+use Rattle.dm_wire.proofs.put.write_fitting_avp.Goals as goal
 
 pub returns-in-None : goal.returns-in-None
 returns-in-None c =

@@ -3,7 +3,7 @@ use Rattle.std.proofs.Common.{◌≡◌, refl}
 use Rattle.dm_wire.specs.Spelling.{avp_length}
 use Rattle.dm_wire.specs.Borrowed.{avp_of}
 use Rattle.dm_wire.proofs.Canonicals.{avp_put}
-use Rattle.dm_wire.proofs.put.push_fitting.Goals as goal
+use Rattle.dm_wire.proofs.put.push_fitting_avp.Goals as goal
 
 pub returns : goal.returns
 returns c =

@@ -2,7 +2,7 @@
 use Rattle.std.proofs.Common.{◌≡◌, ◌++◌, ℕ, List, length}
 use Rattle.dm_wire.specs.Spelling.{SpellsList}
 use Rattle.dm_wire.specs.Canonical.{canonical_list}
-use Rattle.dm_wire.proofs.put.push_list.Given as goal
+use Rattle.dm_wire.proofs.put.push_avp_list.Given as goal
 
 abbrev pub invariant-loop-left : goal.invariant-loop-left
 invariant-loop-left l =

@@ -1,6 +1,6 @@
 -- What is ASCII is text.
 use Rattle.std.proofs.lemmas.Str.{IsUtf8-from_ascii}
-use Rattle.dm_wire.proofs.printing.text_of.Goals as goal
+use Rattle.dm_wire.proofs.printing.ascii_text.Goals as goal
 
 pub from_utf8_unchecked-requires : goal.from_utf8_unchecked-requires
 from_utf8_unchecked-requires c = IsUtf8-from_ascii _ c.requires

@@ -2,7 +2,7 @@
 use Rattle.std.proofs.Common.{◌≡◌, ◌%◌, ◌^◌, length, inr, arith}
 use Rattle.dm_wire.specs.Canonical.{canonical_list}
 use Rattle.dm_wire.proofs.Canonicals.{list_least, list_most}
-use Rattle.dm_wire.proofs.encode.message_rest.Goals as goal
+use Rattle.dm_wire.proofs.encode.message_avps_size.Goals as goal
 
 pub returns-then-avps-gt-MAX_AVPS-clause-none : goal.returns-then-avps-gt-MAX_AVPS-clause-none
 returns-then-avps-gt-MAX_AVPS-clause-none c =

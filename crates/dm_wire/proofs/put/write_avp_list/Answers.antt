@@ -5,7 +5,7 @@ use Rattle.dm_wire.specs.Spelling.{avp_length}
 use Rattle.dm_wire.specs.Borrowed.{avp_of}
 use Rattle.dm_wire.specs.Canonical.{canonical_avp}
 use Rattle.dm_wire.proofs.Written.{first_and_rest, one_written}
-use Rattle.dm_wire.proofs.put.write_list.Goals as goal
+use Rattle.dm_wire.proofs.put.write_avp_list.Goals as goal
 
 pub loop-left-preserved : goal.loop-left-preserved
 loop-left-preserved c =
@@ -15,6 +15,6 @@ loop-left-preserved c =
     let long : c.header_len.result + length bytes ≡ avp_length (avp_of c.borrowed-avp.result) =
     ap (λ n. n + length bytes) c.header_len.ensures.len in
     rw (take_rest left 1)
-    (one_written c.avp-item.result c.loop-left.room c.write_fitting.new.room c.loop-left.place _ left _ c.args.avps.now
-    whole (c.write_fitting.ensures ∙ ap canonical_avp c.borrowed-avp.ensures)
+    (one_written c.avp-item.result c.loop-left.room c.write_fitting_avp.new.room c.loop-left.place _ left _ c.args.avps.now
+    whole (c.write_fitting_avp.ensures ∙ ap canonical_avp c.borrowed-avp.ensures)
     (ap (λ n. (n + 3) / 4 * 4) (long ∙ ap avp_length c.borrowed-avp.ensures)) c.loop-left.invariant)

@@ -3,7 +3,7 @@ use Rattle.std.proofs.Common.{◌≡◌, ◌≤◌, ◌-◌, Some, List, length}
 use Rattle.dm_wire.specs.declared.avp.Avp.{Avp}
 use Rattle.dm_wire.specs.Members.{members}
 use Rattle.dm_wire.proofs.Placing.{ArePlacesSoFar}
-use Rattle.dm_wire.proofs.places.places_of.Given as goal
+use Rattle.dm_wire.proofs.places.avp_places.Given as goal
 
 abbrev pub invariant-loop-extent : goal.invariant-loop-extent
 invariant-loop-extent l =

@@ -2,7 +2,7 @@
 use Rattle.std.proofs.Common.{arith, ◌≡◌, ◌++◌, ◌∷◌, []}
 use Rattle.std.proofs.lemmas.List.{length-drop, take_rest}
 use Rattle.dm_wire.proofs.Placing.{one_more, all_placed}
-use Rattle.dm_wire.proofs.places.places_of.Goals as goal
+use Rattle.dm_wire.proofs.places.avp_places.Goals as goal
 
 pub loop-extent-preserved : goal.loop-extent-preserved
 loop-extent-preserved c =

@@ -4,7 +4,7 @@ use Rattle.std.specs.List.{find}
 use Rattle.dm_wire.specs.declared.avp.Avp.{Avp}
 use Rattle.dm_wire.specs.Finding.{is_of}
 use Rattle.dm_wire.specs.Held.{ArePlaces}
-use Rattle.dm_wire.proofs.places.first_of.Given as goal
+use Rattle.dm_wire.proofs.places.first_matching_avp.Given as goal
 
 abbrev pub invariant-loop-place : goal.invariant-loop-place
 invariant-loop-place l = (avps : List Avp) → ArePlaces l.places avps l.octets →

@@ -4,7 +4,7 @@ use Rattle.dm_wire.specs.Borrowed.{avp_of}
 use Rattle.dm_wire.proofs.Numbers.{fit-octets}
 use Rattle.dm_wire.proofs.Reading.{some_members, no_members}
 use Rattle.dm_wire.proofs.Walking.{passed_more, passed_stop, passed_all}
-use Rattle.dm_wire.proofs.walk.walk_avps.Goals as goal
+use Rattle.dm_wire.proofs.walk.check_avps.Goals as goal
 
 pub loop-read-preserved : goal.loop-read-preserved
 loop-read-preserved c =

@@ -3,7 +3,7 @@ use Rattle.std.proofs.Common.{◌≡◌, ◌+◌, ◌*◌, ◌/◌, sym, length,
 use Rattle.dm_wire.specs.Spelling.{avp_length}
 use Rattle.dm_wire.specs.Canonical.{canonical_avp, canonical_list}
 use Rattle.dm_wire.proofs.Canonicals.{canonical_size, list_more, list_more_spelled, either}
-use Rattle.dm_wire.proofs.size.list_size.Goals as goal
+use Rattle.dm_wire.proofs.size.avp_list_size.Goals as goal
 
 pub loop-avp-preserved : goal.loop-avp-preserved
 loop-avp-preserved c =
@@ -15,11 +15,11 @@ loop-avp-preserved c =
     let size : length (canonical_avp a) ≡ (avp_length a + 3) / 4 * 4 = canonical_size a in
     let len = c.avp_len-length.ensures in
     record {
-      few = omega (arith, before.few, c.too_long-long.ensures.one);
+      few = omega (arith, before.few, c.one_if_too_long-long.ensures.one);
       spelled = λ none. list_more_spelled l i a c.loop-avp-test.true c.avp-item.is (before.spelled (omega arith))
-          (len.spelled (c.too_long-long.ensures.none (omega arith)));
-      long = λ some. either c.loop-avp.long c.too_long-long.result some before.long
-          (λ h. (i, a, c.loop-avp-test.true, sym c.avp-item.is, rw len.len at c.too_long-long.ensures.some h));
+          (len.spelled (c.one_if_too_long-long.ensures.none (omega arith)));
+      long = λ some. either c.loop-avp.long c.one_if_too_long-long.result some before.long
+          (λ h. (i, a, c.loop-avp-test.true, sym c.avp-item.is, rw len.len at c.one_if_too_long-long.ensures.some h));
       size = rw (more, length-append (canonical_list (take i l)) (canonical_avp a), len.len)
           (omega (arith, size, before.size));
     }

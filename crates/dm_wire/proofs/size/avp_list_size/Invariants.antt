@@ -3,7 +3,7 @@ use Rattle.std.proofs.Common.{◌≡◌, ◌<◌, ◌≤◌, ◌%◌, ◌^◌, l
 use Rattle.dm_wire.specs.Spelling.{SpellsList}
 use Rattle.dm_wire.specs.Canonical.{canonical_list}
 use Rattle.dm_wire.specs.Limits.{IsLongList}
-use Rattle.dm_wire.proofs.size.list_size.Given as goal
+use Rattle.dm_wire.proofs.size.avp_list_size.Given as goal
 
 abbrev pub invariant-loop-avp : goal.invariant-loop-avp
 invariant-loop-avp l =

@@ -2,7 +2,7 @@
 use Rattle.std.proofs.Common.{◌≤◌, length}
 use Rattle.std.proofs.lemmas.List.{take_rest}
 use Rattle.dm_wire.proofs.Reading.{headed, bad_behind}
-use Rattle.dm_wire.proofs.message_ref.read_spelled.Goals as goal
+use Rattle.dm_wire.proofs.message_ref.read_message_ref.Goals as goal
 
 pub returns-in-Err-clause-fault : goal.returns-in-Err-clause-fault
 returns-in-Err-clause-fault c =

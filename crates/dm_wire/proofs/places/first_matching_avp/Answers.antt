@@ -3,7 +3,7 @@ use Rattle.std.proofs.Common.{◌∙◌, ap}
 use Rattle.std.specs.List.{find}
 use Rattle.std.proofs.lemmas.List.{drop-drop}
 use Rattle.dm_wire.specs.Finding.{is_of}
-use Rattle.dm_wire.proofs.places.first_of.Goals as goal
+use Rattle.dm_wire.proofs.places.first_matching_avp.Goals as goal
 
 pub loop-place-preserved : goal.loop-place-preserved
 loop-place-preserved c = λ avps placed.
