@@ -28,10 +28,10 @@ pub fn utc_date(seconds: u32) -> Utc
     ensures value { result ≡ utc_at (from_1900 seconds) }
     ensures instant { IsInstant (from_1900 seconds) result }
 {
-    let instant = from_1900(seconds);
+    let instant = seconds_since_1900(seconds);
     let time = (instant % 86_400) as u32;
-    let (year, of_year) = year_at((instant / 86_400) as u32);
-    let (month, of_month) = month_at(year, of_year);
+    let (year, of_year) = year_of_day((instant / 86_400) as u32);
+    let (month, of_month) = month_of_day(year, of_year);
     Utc {
         year,
         month,
@@ -43,7 +43,7 @@ pub fn utc_date(seconds: u32) -> Utc
 }
 
 /// The seconds since 1900.
-fn from_1900(seconds: u32) -> u64
+fn seconds_since_1900(seconds: u32) -> u64
     ensures { result ≡ from_1900 seconds }
 {
     if seconds < 0x8000_0000 {
@@ -53,8 +53,8 @@ fn from_1900(seconds: u32) -> u64
     }
 }
 
-/// The year in which a day lies, counted from 1900-01-01, and the days of the year before it.
-fn year_at(days: u32) -> (u32, u32)
+/// The year of the day so many days after 1900-01-01, and how many days of that year come before it.
+fn year_of_day(days: u32) -> (u32, u32)
     ensures { result ≡ year_at days }
 {
     let mut left = days;
@@ -68,8 +68,8 @@ fn year_at(days: u32) -> (u32, u32)
     (2104, left)
 }
 
-/// The month in which a day of the year lies, and the days of the month before it.
-fn month_at(year: u32, days: u32) -> (u32, u32)
+/// The month of the day so many days after the first of the year, and how many days of that month come before it.
+fn month_of_day(year: u32, days: u32) -> (u32, u32)
     ensures { result ≡ month_at year days }
 {
     let mut left = days;
@@ -95,12 +95,12 @@ fn days_of_month(year: u32, month: u32) -> u32
     if month == 2 {
         if is_leap(year) { 29 } else { 28 }
     } else {
-        if is_short(month) { 30 } else { 31 }
+        if has_thirty_days(month) { 30 } else { 31 }
     }
 }
 
 /// April, June, September and November.
-fn is_short(month: u32) -> bool
+fn has_thirty_days(month: u32) -> bool
     ensures { result ≡ is_short month }
 {
     month == 4 || month == 6 || month == 9 || month == 11

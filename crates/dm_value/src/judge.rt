@@ -28,11 +28,11 @@ pub fn value_fault(kind: AvpType, octets: &[u8]) -> Option<ValueFault>
     ensures good { IfNone result ((value : Value) × Means kind octets.now value) }
 {
     members_spell();
-    flaw_of(kind, octets)
+    fault_by_type(kind, octets)
 }
 
-/// The table by the type.
-fn flaw_of(kind: AvpType, octets: &[u8]) -> Option<ValueFault>
+/// What is wrong with octets of the type, or `None`: a table, with a row for each type.
+fn fault_by_type(kind: AvpType, octets: &[u8]) -> Option<ValueFault>
     ensures { result ≡ flaw kind octets.now }
 {
     match kind {
@@ -117,11 +117,11 @@ fn is_visible(octets: &[u8]) -> bool
 fn is_uri(octets: &[u8]) -> bool
     ensures { result ≡ is_uri octets.now }
 {
-    is_under(b"aaa://", octets) || is_under(b"aaas://", octets)
+    is_uri_of_scheme(b"aaa://", octets) || is_uri_of_scheme(b"aaas://", octets)
 }
 
 /// Whether the octets are the scheme and at least one visible octet.
-fn is_under(scheme: &[u8], octets: &[u8]) -> bool
+fn is_uri_of_scheme(scheme: &[u8], octets: &[u8]) -> bool
     ensures { result ≡ is_under scheme.now octets.now }
 {
     match octets.strip_prefix(scheme) {

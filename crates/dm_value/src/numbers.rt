@@ -48,7 +48,11 @@ pub(crate) fn write_signed_64(alloc: Global, number: i64) -> Result<Vec<u8>, All
 }
 
 /// An address: two octets of family, and the octets behind it.
-pub(crate) fn write_family(alloc: Global, family: u16, rest: &[u8]) -> Result<Vec<u8>, AllocError>
+pub(crate) fn write_address_of_family(
+    alloc: Global,
+    family: u16,
+    rest: &[u8],
+) -> Result<Vec<u8>, AllocError>
     ensures octets { IfOk result (λ octets. octets.items ≡ be family 2 ++ rest.now) }
     ensures read_back { family ≡ big_number 2 (be family 2 ++ rest.now) }
     ensures fits { family < 256 ^ 2 }

@@ -42,12 +42,12 @@ pub fn read_value(alloc: Global, kind: AvpType, octets: &[u8]) -> Result<Value, 
     value_meant();
     match value_fault(kind, octets) {
         Some(fault) => Err(fault),
-        None => read_sound(alloc, kind, octets),
+        None => read_faultless_value(alloc, kind, octets),
     }
 }
 
 /// The value of octets with which nothing is wrong.
-fn read_sound(alloc: Global, kind: AvpType, octets: &[u8]) -> Result<Value, ValueFault>
+fn read_faultless_value(alloc: Global, kind: AvpType, octets: &[u8]) -> Result<Value, ValueFault>
     requires { flaw kind octets.now ≡ None }
     ensures found { IfOk result (λ value. Means kind octets.now value) }
     ensures memory { IsErrOf result ValueFault.NoMemory → HoldsOctets kind octets.now }
@@ -82,8 +82,8 @@ fn read_address(alloc: Global, octets: &[u8]) -> Result<Address, AllocError>
     ensures memory { OnErr result (HoldsOctets AvpType.Address octets.now) }
 {
     match BigEndian::read_u16(octets) {
-        1 => Ok(Address::Ip(Ip::V4(read_4(octets)))),
-        2 => Ok(Address::Ip(Ip::V6(read_16(octets)))),
+        1 => Ok(Address::Ip(Ip::V4(read_ipv4_octets(octets)))),
+        2 => Ok(Address::Ip(Ip::V6(read_ipv6_octets(octets)))),
         family => Ok(Address::Other(family, Octets::from_slice(alloc, &octets[2..])?)),
     }
 }
@@ -112,7 +112,7 @@ fn read_text(alloc: Global, octets: &[u8]) -> Result<Text, ValueFault>
 }
 
 /// The four octets behind the family.
-fn read_4(octets: &[u8]) -> [u8; 4]
+fn read_ipv4_octets(octets: &[u8]) -> [u8; 4]
     requires { length octets.now ≡ 6 }
     ensures at { result ≡ drop 2 octets.now }
 {
@@ -122,7 +122,7 @@ fn read_4(octets: &[u8]) -> [u8; 4]
 }
 
 /// The sixteen octets behind the family.
-fn read_16(octets: &[u8]) -> [u8; 16]
+fn read_ipv6_octets(octets: &[u8]) -> [u8; 16]
     requires { length octets.now ≡ 18 }
     ensures at { result ≡ drop 2 octets.now }
 {

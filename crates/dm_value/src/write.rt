@@ -8,7 +8,7 @@ ghost use Rattle.dm_value.specs.declared.value.Value.{Value};
 
 use crate::laws::one_value;
 use crate::numbers::{
-    write_family, write_signed_32, write_signed_64, write_unsigned_32, write_unsigned_64,
+    write_address_of_family, write_signed_32, write_signed_64, write_unsigned_32, write_unsigned_64,
 };
 use crate::{Address, AvpType, Ip, Value, ValueFault, value_fault};
 use dm_wire::{AvpList, WireFault, encode_avps};
@@ -37,7 +37,7 @@ pub fn write_value(alloc: Global, value: &Value) -> Result<Vec<u8>, ValueFault>
     if is_misshapen(value) {
         return Err(ValueFault::WrongValue);
     }
-    write_shaped(alloc, value)
+    write_well_formed_value(alloc, value)
 }
 
 /// Whether the value is an address of family 1 or 2 given as `Other`, or an identity or a URI not of
@@ -46,7 +46,7 @@ fn is_misshapen(value: &Value) -> bool
     ensures { IsTrue result ↔ IsMisshapen value.now }
 {
     match value {
-        Value::Addr(address) => is_hidden_ip(address),
+        Value::Addr(address) => is_ip_given_as_other(address),
         Value::Identity(name) => {
             value_fault(AvpType::DiameterIdentity, name.as_slice()).is_some()
         }
@@ -56,7 +56,7 @@ fn is_misshapen(value: &Value) -> bool
 }
 
 /// Whether the address is given as of another family, but of family 1 or 2.
-fn is_hidden_ip(address: &Address) -> bool
+fn is_ip_given_as_other(address: &Address) -> bool
     ensures { IsTrue result ↔ IsMisshapen (Value.Addr address.now) }
 {
     match address {
@@ -66,7 +66,7 @@ fn is_hidden_ip(address: &Address) -> bool
 }
 
 /// The octets of a value that is of its type's form.
-fn write_shaped(alloc: Global, value: &Value) -> Result<Vec<u8>, ValueFault>
+fn write_well_formed_value(alloc: Global, value: &Value) -> Result<Vec<u8>, ValueFault>
     requires { IsMisshapen value.now → ⊥ }
     ensures found { IfOk result (λ octets. Means (type_of value.now) octets.items value.now) }
     ensures group { (avps : List Avp) → value.now ≡ Value.Group avps
@@ -99,7 +99,7 @@ fn write_address(alloc: Global, address: &Address) -> Result<Vec<u8>, AllocError
 {
     match address {
         Address::Ip(ip) => write_ip(alloc, ip),
-        Address::Other(family, rest) => write_family(alloc, *family, rest.as_slice()),
+        Address::Other(family, rest) => write_address_of_family(alloc, *family, rest.as_slice()),
     }
 }
 
@@ -108,8 +108,8 @@ fn write_ip(alloc: Global, ip: &Ip) -> Result<Vec<u8>, AllocError>
     ensures range { IsInRange (Value.Addr (Address.Ip ip.now)) }
 {
     match ip {
-        Ip::V4(octets) => write_family(alloc, 1, octets),
-        Ip::V6(octets) => write_family(alloc, 2, octets),
+        Ip::V4(octets) => write_address_of_family(alloc, 1, octets),
+        Ip::V6(octets) => write_address_of_family(alloc, 2, octets),
     }
 }
 

@@ -1,7 +1,7 @@
 use Rattle.std.proofs.Common.{arith, ◌∙◌, ◌-◌}
 use Rattle.dm_value.specs.Dates.{days_of_year}
 use Rattle.dm_value.proofs.Spans.{span_here, span_passed, span_last}
-use Rattle.dm_value.proofs.date.year_at.Goals as goal
+use Rattle.dm_value.proofs.date.year_of_day.Goals as goal
 
 pub returns-then-left-length : goal.returns-then-left-length
 returns-then-left-length c =

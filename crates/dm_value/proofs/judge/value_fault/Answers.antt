@@ -11,13 +11,13 @@ use Rattle.dm_value.proofs.judge.value_fault.Goals as goal
 pub returns-clause-length : goal.returns-clause-length
 returns-clause-length c =
     let t = any_tells c.members_spell.ensures c.args.kind c.args.octets.now (λ i. Fits-lt-pow (c.type_inv.octets i)) in
-    let e = c.flaw_of.ensures in
+    let e = c.fault_by_type.ensures in
     (λ h. t.0.0 (sym e ∙ h), λ h. e ∙ t.0.1 h)
 
 pub returns-clause-value : goal.returns-clause-value
 returns-clause-value c =
     let t = any_tells c.members_spell.ensures c.args.kind c.args.octets.now (λ i. Fits-lt-pow (c.type_inv.octets i)) in
-    let e = c.flaw_of.ensures in
+    let e = c.fault_by_type.ensures in
     (λ h. t.1.0 (sym e ∙ h), λ h. e ∙ t.1.1 h.0 h.1)
 
 pub returns-clause-fault : goal.returns-clause-fault
@@ -26,7 +26,7 @@ returns-clause-fault c =
     let T : Option ValueFault →
     Type 0 = λ r. Tells r (HasWrongLength c.args.kind c.args.octets.now)
     (HasWrongValue c.args.kind c.args.octets.now) in
-    told_fault c.flaw_of.result c.args.kind c.args.octets.now (subst T (sym c.flaw_of.ensures) t)
+    told_fault c.fault_by_type.result c.args.kind c.args.octets.now (subst T (sym c.fault_by_type.ensures) t)
 
 none_valued : (r : Option ValueFault) (P : Type 0) → (r ≡ None → P) → IfNone r P
 none_valued None P h = h refl
@@ -34,6 +34,6 @@ none_valued (Some f) P h = tt
 
 pub returns-clause-good : goal.returns-clause-good
 returns-clause-good c =
-    none_valued c.flaw_of.result _
+    none_valued c.fault_by_type.result _
     (λ none. valued c.members_spell.ensures c.args.kind c.args.octets.now (λ g i. Fits-lt-pow (c.type_inv.octets i))
-    (sym c.flaw_of.ensures ∙ none))
+    (sym c.fault_by_type.ensures ∙ none))

@@ -3,7 +3,7 @@ use Rattle.std.proofs.Common.{◌≡◌, subst}
 use Rattle.dm_wire.specs.Limits.{IsLongList}
 use Rattle.dm_value.specs.Columns.{HasUriForm}
 use Rattle.dm_value.proofs.Writable.{shaped_uri}
-use Rattle.dm_value.proofs.write.write_shaped.Goals as goal
+use Rattle.dm_value.proofs.write.write_well_formed_value.Goals as goal
 
 pub returns-in_ok-from_slice-in-Uri-clause-found : goal.returns-in_ok-from_slice-in-Uri-clause-found
 returns-in_ok-from_slice-in-Uri-clause-found c =
