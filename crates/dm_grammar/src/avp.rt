@@ -12,16 +12,16 @@ ghost use Rattle.dm_grammar.specs.Views.{view_word, view_avp, view_reference_opt
 use crate::fault::ItemFault;
 use crate::item::{AvpItem, VendorWord};
 use crate::reading::{Reading, Version};
-use crate::step::{begins, expect};
+use crate::step::{begins_with_terminal, expect_token};
 use crate::symbol::Symbol;
 use crate::terminal::{Terminal, fits};
 use crate::token::Token;
 use crate::value::values;
-use crate::vendor::vendor_word;
+use crate::vendor::read_vendor_word;
 use std::alloc::Global;
 
 /// Whether a list may stand behind the type.
-fn may_list(kind: Token<'_>, how: Reading) -> bool
+fn may_have_list(kind: Token<'_>, how: Reading) -> bool
     ensures { result ≡ may_list how.version (view_word kind.entry) }
 {
     match how.version {
@@ -41,17 +41,21 @@ fn kind<'t, 'a>(
         (λ line. collect how AvpCode (view_words tokens.now) ≡ Err line) }
     ensures shorter { IfOk result (λ x. length x.1.now < length tokens.now) }
 {
-    let (kind, rest) = expect(tokens, how, Terminal::AnyName)?;
-    Ok(((kind, may_list(kind, how)), rest))
+    let (kind, rest) = expect_token(tokens, how, Terminal::AnyName)?;
+    Ok(((kind, may_have_list(kind, how)), rest))
 }
 
 /// `{` before a list, where one may stand.
-fn brace<'t, 'a>(tokens: &'t [Token<'a>], how: Reading, may: bool) -> (bool, &'t [Token<'a>])
+fn read_list_brace<'t, 'a>(
+    tokens: &'t [Token<'a>],
+    how: Reading,
+    may: bool,
+) -> (bool, &'t [Token<'a>])
     ensures tells { collect how (behind_vendor may) (view_words tokens.now)
         ≡ collect how (behind_brace result.0) (view_words result.1.now) }
     ensures shorter { length result.1.now ≤ length tokens.now }
 {
-    if may && begins(tokens, Terminal::One(Symbol::OpenBrace)) {
+    if may && begins_with_terminal(tokens, Terminal::One(Symbol::OpenBrace)) {
         (true, &tokens[1..])
     } else {
         (false, tokens)
@@ -67,7 +71,7 @@ struct TypePart<'a> {
 }
 
 /// type [vend] ["{"].
-fn typed<'t, 'a>(
+fn read_type_part<'t, 'a>(
     tokens: &'t [Token<'a>],
     how: Reading,
 ) -> Result<(TypePart<'a>, &'t [Token<'a>]), usize>
@@ -79,13 +83,13 @@ fn typed<'t, 'a>(
     ensures shorter { IfOk result (λ x. length x.1.now < length tokens.now) }
 {
     let ((kind, may), rest) = kind(tokens, how)?;
-    let (vendor, rest) = vendor_word(rest, how)?;
-    let (list, rest) = brace(rest, how, may);
+    let (vendor, rest) = read_vendor_word(rest, how)?;
+    let (list, rest) = read_list_brace(rest, how, may);
     Ok((TypePart { kind, vendor, list }, rest))
 }
 
 /// number type [vend] ["{"].
-fn coded<'t, 'a>(
+fn read_code_and_type<'t, 'a>(
     tokens: &'t [Token<'a>],
     how: Reading,
 ) -> Result<((Token<'a>, TypePart<'a>), &'t [Token<'a>]), usize>
@@ -97,13 +101,13 @@ fn coded<'t, 'a>(
         (λ line. collect how AvpName (view_words tokens.now) ≡ Err line) }
     ensures shorter { IfOk result (λ x. length x.1.now < length tokens.now) }
 {
-    let (code, rest) = expect(tokens, how, Terminal::One(Symbol::Number))?;
-    let (typed, rest) = typed(rest, how)?;
+    let (code, rest) = expect_token(tokens, how, Terminal::One(Symbol::Number))?;
+    let (typed, rest) = read_type_part(rest, how)?;
     Ok(((code, typed), rest))
 }
 
 /// name number type [vend] ["{"].
-fn avp_words<'t, 'a>(
+fn read_avp_front<'t, 'a>(
     tokens: &'t [Token<'a>],
     how: Reading,
 ) -> Result<((Token<'a>, Token<'a>, TypePart<'a>), &'t [Token<'a>]), usize>
@@ -116,13 +120,13 @@ fn avp_words<'t, 'a>(
         (λ line. collect how AtSign (view_words tokens.now) ≡ Err line) }
     ensures shorter { IfOk result (λ x. length x.1.now < length tokens.now) }
 {
-    let (name, rest) = expect(tokens, how, Terminal::AnyName)?;
-    let ((code, typed), rest) = coded(rest, how)?;
+    let (name, rest) = expect_token(tokens, how, Terminal::AnyName)?;
+    let ((code, typed), rest) = read_code_and_type(rest, how)?;
     Ok(((name, code, typed), rest))
 }
 
 /// What follows `@`: name number type [vend], and a list of values where one is written.
-pub(crate) fn avp_item<'t, 'a>(
+pub(crate) fn read_avp_item<'t, 'a>(
     alloc: Global,
     tokens: &'t [Token<'a>],
     how: Reading,
@@ -134,7 +138,7 @@ pub(crate) fn avp_item<'t, 'a>(
         (λ fault. IfSyntax fault (λ line. collect how AtSign (view_words tokens.now) ≡ Err line)) }
     ensures shorter { IfOk result (λ x. length x.1.now < length tokens.now) }
 {
-    match avp_words(tokens, how) {
+    match read_avp_front(tokens, how) {
         Ok(((name, code, typed), rest)) => {
             let (values, rest) = values(alloc, rest, how, typed.list)?;
             let item = AvpItem {

@@ -8,7 +8,9 @@ ghost use Rattle.dm_grammar.specs.Views.{view_entry, view_option, view_words};
 
 use crate::item::{EntryItem, Form, Qualifier};
 use crate::reading::Reading;
-use crate::step::{begins, begins_title, expect, optional, two_wanted_tokens};
+use crate::step::{
+    begins_title, begins_with_terminal, expect_token, expect_two_tokens, take_token_if,
+};
 use crate::symbol::Symbol;
 use crate::terminal::Terminal;
 use crate::token::Token;
@@ -26,7 +28,7 @@ fn bracket_form(symbol: Symbol) -> Option<Form>
 }
 
 /// What closes the brackets of a form.
-fn close_of(form: Form) -> Symbol
+fn closing_bracket(form: Form) -> Symbol
     ensures { result ≡ close_of form }
 {
     match form {
@@ -37,7 +39,7 @@ fn close_of(form: Form) -> Symbol
 }
 
 /// A name in brackets.
-fn bracketed<'t, 'a>(
+fn read_bracketed_name<'t, 'a>(
     tokens: &'t [Token<'a>],
     how: Reading,
 ) -> Result<(EntryItem<'a>, &'t [Token<'a>]), usize>
@@ -54,8 +56,8 @@ fn bracketed<'t, 'a>(
     let Some(form) = bracket_form(open.symbol) else {
         return Err(open.line);
     };
-    let close = Terminal::One(close_of(form));
-    let (words, rest) = two_wanted_tokens(rest, how, Terminal::AnyName, close)?;
+    let close = Terminal::One(closing_bracket(form));
+    let (words, rest) = expect_two_tokens(rest, how, Terminal::AnyName, close)?;
     let entry = EntryItem {
         form,
         name: words.0,
@@ -65,7 +67,7 @@ fn bracketed<'t, 'a>(
 }
 
 /// What follows the first number of an entry, or its place: `*` [number], and a name in brackets.
-fn starred<'t, 'a>(
+fn read_starred_entry<'t, 'a>(
     low: Option<Token<'a>>,
     tokens: &'t [Token<'a>],
     how: Reading,
@@ -76,9 +78,9 @@ fn starred<'t, 'a>(
         (λ line. low_before (view_option low.entry) (collect how Low (view_words tokens.now)) ≡ Err line) }
     ensures shorter { IfOk result (λ x. length x.1.now < length tokens.now) }
 {
-    let (_star, rest) = expect(tokens, how, Terminal::One(Symbol::Star))?;
-    let (high, rest) = optional(rest, Terminal::One(Symbol::Number));
-    let (mut entry, rest) = bracketed(rest, how)?;
+    let (_star, rest) = expect_token(tokens, how, Terminal::One(Symbol::Star))?;
+    let (high, rest) = take_token_if(rest, Terminal::One(Symbol::Number));
+    let (mut entry, rest) = read_bracketed_name(rest, how)?;
     entry.qualifier = Some(Qualifier { low, high });
     Ok((entry, rest))
 }
@@ -87,11 +89,11 @@ fn starred<'t, 'a>(
 pub(crate) fn begins_entry(tokens: &[Token<'_>]) -> bool
     ensures { result ≡ begins_entry (view_words tokens.now) }
 {
-    begins(tokens, Terminal::One(Symbol::Number))
-        || begins(tokens, Terminal::One(Symbol::Star))
-        || begins(tokens, Terminal::One(Symbol::OpenBrace))
-        || begins(tokens, Terminal::One(Symbol::OpenSquare))
-        || (begins(tokens, Terminal::One(Symbol::Less)) && !begins_title(tokens))
+    begins_with_terminal(tokens, Terminal::One(Symbol::Number))
+        || begins_with_terminal(tokens, Terminal::One(Symbol::Star))
+        || begins_with_terminal(tokens, Terminal::One(Symbol::OpenBrace))
+        || begins_with_terminal(tokens, Terminal::One(Symbol::OpenSquare))
+        || (begins_with_terminal(tokens, Terminal::One(Symbol::Less)) && !begins_title(tokens))
 }
 
 /// The entry with which the tokens begin.
@@ -106,14 +108,14 @@ pub(crate) fn entry<'t, 'a>(
         (λ line. collect how InRule (view_words tokens.now) ≡ Err line) }
     ensures shorter { IfOk result (λ x. length x.1.now < length tokens.now) }
 {
-    let (low, rest) = optional(tokens, Terminal::One(Symbol::Number));
+    let (low, rest) = take_token_if(tokens, Terminal::One(Symbol::Number));
     match low {
-        Some(_) => starred(low, rest, how),
+        Some(_) => read_starred_entry(low, rest, how),
         None => {
-            if begins(tokens, Terminal::One(Symbol::Star)) {
-                starred(None, tokens, how)
+            if begins_with_terminal(tokens, Terminal::One(Symbol::Star)) {
+                read_starred_entry(None, tokens, how)
             } else {
-                bracketed(tokens, how)
+                read_bracketed_name(tokens, how)
             }
         }
     }

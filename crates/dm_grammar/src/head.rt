@@ -9,11 +9,11 @@ ghost use Rattle.dm_grammar.specs.Tokens.{Word};
 ghost use Rattle.dm_grammar.specs.Views.{view_head, view_option, view_words};
 
 use crate::reading::Reading;
-use crate::step::{expect, optional, stands_at, two_wanted_tokens};
+use crate::step::{expect_token, expect_two_tokens, is_terminal_at, take_token_if};
 use crate::symbol::Symbol;
 use crate::terminal::Terminal;
 use crate::token::Token;
-use crate::vendor::colon;
+use crate::vendor::read_vendor_colon;
 
 /// What stands between `<` and `>`: the code, the flags of a command, the second number, and the name of a
 /// group's vendor.
@@ -29,14 +29,14 @@ pub(crate) struct Head<'a> {
 }
 
 /// `,` and a flag, where they are there.
-fn flag<'t, 'a>(tokens: &'t [Token<'a>], symbol: Symbol) -> (bool, &'t [Token<'a>])
+fn read_flag<'t, 'a>(tokens: &'t [Token<'a>], symbol: Symbol) -> (bool, &'t [Token<'a>])
     ensures flag { result.0 ≡ begins_flag symbol (view_words tokens.now) }
     ensures rest { view_words result.1.now
         ≡ (if result.0 then drop 2 (view_words tokens.now) else view_words tokens.now) }
     ensures shorter { length result.1.now ≤ length tokens.now }
 {
-    if stands_at(tokens, 0, Terminal::One(Symbol::Comma))
-        && stands_at(tokens, 1, Terminal::One(symbol))
+    if is_terminal_at(tokens, 0, Terminal::One(Symbol::Comma))
+        && is_terminal_at(tokens, 1, Terminal::One(symbol))
     {
         (true, &tokens[2..])
     } else {
@@ -45,7 +45,7 @@ fn flag<'t, 'a>(tokens: &'t [Token<'a>], symbol: Symbol) -> (bool, &'t [Token<'a
 }
 
 /// The end of a head: [[","] number] ">".
-fn head_end<'t, 'a>(
+fn read_head_end<'t, 'a>(
     tokens: &'t [Token<'a>],
     how: Reading,
 ) -> Result<(Option<Token<'a>>, &'t [Token<'a>]), usize>
@@ -55,10 +55,10 @@ fn head_end<'t, 'a>(
         (λ line. collect how Flagged (view_words tokens.now) ≡ Err line) }
     ensures shorter { IfOk result (λ x. length x.1.now < length tokens.now) }
 {
-    let (comma, rest) = optional(tokens, Terminal::One(Symbol::Comma));
+    let (comma, rest) = take_token_if(tokens, Terminal::One(Symbol::Comma));
     match comma {
         Some(_) => {
-            let (words, rest) = two_wanted_tokens(
+            let (words, rest) = expect_two_tokens(
                 rest,
                 how,
                 Terminal::One(Symbol::Number),
@@ -67,15 +67,15 @@ fn head_end<'t, 'a>(
             Ok((Some(words.0), rest))
         }
         None => {
-            let (found, rest) = optional(tokens, Terminal::One(Symbol::Number));
-            let (_end, rest) = expect(rest, how, Terminal::One(Symbol::Greater))?;
+            let (found, rest) = take_token_if(tokens, Terminal::One(Symbol::Number));
+            let (_end, rest) = expect_token(rest, how, Terminal::One(Symbol::Greater))?;
             Ok((found, rest))
         }
     }
 }
 
 /// The rest of a command's head: ":" number ["," "REQ"] ["," "PXY"] ["," "ERR"] [[","] number] ">".
-pub(crate) fn command_head<'t, 'a>(
+pub(crate) fn read_command_head<'t, 'a>(
     tokens: &'t [Token<'a>],
     how: Reading,
 ) -> Result<(Head<'a>, &'t [Token<'a>]), usize>
@@ -85,16 +85,16 @@ pub(crate) fn command_head<'t, 'a>(
         (λ line. collect how CommandColon (view_words tokens.now) ≡ Err line) }
     ensures shorter { IfOk result (λ x. length x.1.now < length tokens.now) }
 {
-    let (words, rest) = two_wanted_tokens(
+    let (words, rest) = expect_two_tokens(
         tokens,
         how,
         Terminal::One(Symbol::Colon),
         Terminal::One(Symbol::Number),
     )?;
-    let (request, rest) = flag(rest, Symbol::Req);
-    let (proxiable, rest) = flag(rest, Symbol::Pxy);
-    let (error, rest) = flag(rest, Symbol::Err);
-    let (second, rest) = head_end(rest, how)?;
+    let (request, rest) = read_flag(rest, Symbol::Req);
+    let (proxiable, rest) = read_flag(rest, Symbol::Pxy);
+    let (error, rest) = read_flag(rest, Symbol::Err);
+    let (second, rest) = read_head_end(rest, how)?;
     let head = Head {
         command: true,
         code: words.1,
@@ -108,7 +108,7 @@ pub(crate) fn command_head<'t, 'a>(
 }
 
 /// The end of a group's head, with the name or the number of its vendor: [[","] number | ":" name] ">".
-fn group_end<'t, 'a>(
+fn read_group_end<'t, 'a>(
     tokens: &'t [Token<'a>],
     how: Reading,
 ) -> Result<((Option<Token<'a>>, Option<Token<'a>>), &'t [Token<'a>]), usize>
@@ -118,9 +118,9 @@ fn group_end<'t, 'a>(
         (λ line. collect how GroupCoded (view_words tokens.now) ≡ Err line) }
     ensures shorter { IfOk result (λ x. length x.1.now < length tokens.now) }
 {
-    let (named, rest) = colon(tokens, how);
+    let (named, rest) = read_vendor_colon(tokens, how);
     if named {
-        let (words, rest) = two_wanted_tokens(
+        let (words, rest) = expect_two_tokens(
             rest,
             how,
             Terminal::AnyName,
@@ -128,13 +128,13 @@ fn group_end<'t, 'a>(
         )?;
         Ok(((Some(words.0), None), rest))
     } else {
-        let (number, rest) = head_end(tokens, how)?;
+        let (number, rest) = read_head_end(tokens, how)?;
         Ok(((None, number), rest))
     }
 }
 
 /// The rest of a group's head: ":" number [[","] number | ":" name] ">".
-pub(crate) fn group_head<'t, 'a>(
+pub(crate) fn read_group_head<'t, 'a>(
     tokens: &'t [Token<'a>],
     how: Reading,
 ) -> Result<(Head<'a>, &'t [Token<'a>]), usize>
@@ -144,13 +144,13 @@ pub(crate) fn group_head<'t, 'a>(
         (λ line. collect how GroupColon (view_words tokens.now) ≡ Err line) }
     ensures shorter { IfOk result (λ x. length x.1.now < length tokens.now) }
 {
-    let (words, rest) = two_wanted_tokens(
+    let (words, rest) = expect_two_tokens(
         tokens,
         how,
         Terminal::One(Symbol::Colon),
         Terminal::One(Symbol::Number),
     )?;
-    let ((named, second), rest) = group_end(rest, how)?;
+    let ((named, second), rest) = read_group_end(rest, how)?;
     let head = Head {
         command: false,
         code: words.1,

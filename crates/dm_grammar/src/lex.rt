@@ -7,7 +7,7 @@ ghost use Rattle.dm_grammar.specs.Symbols.{begins_word, goes_on, is_line_feed, i
 ghost use Rattle.dm_grammar.specs.Tokens.{lexeme_of, last_line, tokens, Sees};
 ghost use Rattle.dm_grammar.specs.Views.{view_word};
 
-use crate::symbol::{Symbol, mark_of, symbol_of_word};
+use crate::symbol::{Symbol, symbol_of_mark, symbol_of_word};
 use crate::token::Token;
 use std::alloc::{AllocError, Global};
 use std::simd::prelude::*;
@@ -18,7 +18,7 @@ fn begins_word(octet: u8) -> bool
     octet.is_ascii_alphanumeric()
 }
 
-fn goes_on(octet: u8) -> bool
+fn is_word_octet(octet: u8) -> bool
     ensures { result ≡ goes_on octet }
 {
     octet.is_ascii_alphanumeric() || octet == b'-'
@@ -36,7 +36,7 @@ fn word_len(text: &[u8]) -> usize
 {
     let mut n = 0;
     while text.len() - n >= 16 {
-        let run = word_run(u8x16::from_slice(&text[n..]));
+        let run = word_len_of_sixteen(u8x16::from_slice(&text[n..]));
         n += run;
         if run < 16 {
             return n;
@@ -47,11 +47,11 @@ fn word_len(text: &[u8]) -> usize
 
 /// How many of sixteen octets stand before the first that is none of a word's.
 #[inline(always)]
-fn word_run(octets: u8x16) -> usize
+fn word_len_of_sixteen(octets: u8x16) -> usize
     ensures value { result ≡ prefix_len goes_on octets }
     ensures within { result ≤ 16 }
 {
-    let ends = word_ends(octets);
+    let ends = word_end_mask(octets);
     if ends == 0 {
         16
     } else {
@@ -61,7 +61,7 @@ fn word_run(octets: u8x16) -> usize
 
 /// A bit for each octet that is none of a word's.
 #[inline(always)]
-fn word_ends(octets: u8x16) -> u64
+fn word_end_mask(octets: u8x16) -> u64
     ensures { result ≡ mask_l (map (λ c. not (goes_on c)) octets) }
 {
     let numbers = (octets - u8x16::splat(b'0')).simd_lt(u8x16::splat(10));
@@ -76,7 +76,7 @@ fn word_len_of_few(text: &[u8]) -> usize
     ensures { result ≡ prefix_len goes_on text.now }
 {
     let mut n = 0;
-    while n < text.len() && goes_on(text[n]) {
+    while n < text.len() && is_word_octet(text[n]) {
         n += 1;
     }
     n
@@ -95,7 +95,7 @@ fn line_len(text: &[u8]) -> usize
 }
 
 /// The token with which the text begins, and its length in octets: the longest word, `::=`, or one octet.
-fn lexeme(text: &[u8]) -> (Symbol, usize)
+fn first_lexeme(text: &[u8]) -> (Symbol, usize)
     requires { 0 < length text.now }
     ensures value { result ≡ lexeme_of text.now }
     ensures within { result.1 ≤ length text.now }
@@ -107,7 +107,7 @@ fn lexeme(text: &[u8]) -> (Symbol, usize)
     } else if text.starts_with(b"::=") {
         (Symbol::Define, 3)
     } else {
-        (mark_of(text[0]), 1)
+        (symbol_of_mark(text[0]), 1)
     }
 }
 
@@ -130,7 +130,7 @@ fn next_token(text: &[u8], at: usize, line: usize) -> Option<(Token<'_>, usize)>
         } else if first == b';' {
             at += line_len(&text[at..]);
         } else {
-            let (symbol, len) = lexeme(&text[at..]);
+            let (symbol, len) = first_lexeme(&text[at..]);
             let token = Token {
                 symbol,
                 text: &text[at..at + len],
@@ -162,22 +162,22 @@ pub(crate) fn last_line(text: &[u8]) -> usize
     ensures { result ≡ last_line text.now }
 {
     match text.split_last() {
-        Some((_, front)) => line_feeds(front) + 1,
+        Some((_, front)) => count_line_feeds(front) + 1,
         None => 1,
     }
 }
 
 /// How many octets are line feeds.
-fn line_feeds(text: &[u8]) -> usize
+fn count_line_feeds(text: &[u8]) -> usize
     ensures value { result ≡ count_by is_line_feed text.now }
     ensures within { result ≤ length text.now }
 {
     let runs = text.len() / 16;
-    line_feeds_in_runs(text, runs) + line_feeds_in_few(&text[16 * runs..])
+    count_line_feeds_in_runs(text, runs) + count_line_feeds_in_few(&text[16 * runs..])
 }
 
 /// How many of the octets of so many runs of sixteen are line feeds.
-fn line_feeds_in_runs(text: &[u8], runs: usize) -> usize
+fn count_line_feeds_in_runs(text: &[u8], runs: usize) -> usize
     requires { 16 * runs ≤ length text.now }
     ensures value { result ≡ count_by is_line_feed (take (16 * runs) text.now) }
     ensures within { result ≤ 16 * runs }
@@ -192,7 +192,7 @@ fn line_feeds_in_runs(text: &[u8], runs: usize) -> usize
 }
 
 /// How many of a few octets are line feeds.
-fn line_feeds_in_few(text: &[u8]) -> usize
+fn count_line_feeds_in_few(text: &[u8]) -> usize
     ensures value { result ≡ count_by is_line_feed text.now }
     ensures within { result ≤ length text.now }
 {

@@ -14,24 +14,24 @@ ghost use Rattle.dm_grammar.specs.Told.{Gathered, collect, filled, items_told, i
 ghost use Rattle.dm_grammar.specs.Tokens.{tokens};
 ghost use Rattle.dm_grammar.specs.Views.{view_word, view_entry, view_head, view_item, view_words};
 
-use crate::avp::avp_item;
+use crate::avp::read_avp_item;
 use crate::fault::ItemFault;
 use crate::head::Head;
 use crate::item::{CommandItem, EntryItem, GroupItem, Item};
 use crate::lex::{last_line, tokens};
 use crate::reading::Reading;
 use crate::rule::rule;
-use crate::step::{optional, same};
+use crate::step::{same_tokens, take_token_if};
 use crate::symbol::Symbol;
 use crate::terminal::Terminal;
-use crate::title::opening;
+use crate::title::read_title_and_head;
 use crate::token::Token;
-use crate::vendor::{begins_vendor, vendor_item, vendor_told};
+use crate::vendor::{begins_vendor, named_or_numbered_vendor, read_vendor_item};
 use crate::version::version_and_body;
 use std::alloc::Global;
 
 /// The command or the group of a title, a head and a rule.
-fn defined<'a>(name: Token<'a>, head: Head<'a>, rule: Vec<EntryItem<'a>>) -> Item<'a>
+fn command_or_group_item<'a>(name: Token<'a>, head: Head<'a>, rule: Vec<EntryItem<'a>>) -> Item<'a>
     ensures { (r : Result Gathered ℕ) → filled TitleIs (view_word name.entry)
         (with_head (view_head head.entry) (with_rule (map view_entry rule.entry.items) r))
         ≡ adding_item (view_item result) r }
@@ -50,14 +50,14 @@ fn defined<'a>(name: Token<'a>, head: Head<'a>, rule: Vec<EntryItem<'a>>) -> Ite
         Item::Group(GroupItem {
             name,
             code: head.code,
-            vendor: vendor_told(head.named, head.second),
+            vendor: named_or_numbered_vendor(head.named, head.second),
             rule,
         })
     }
 }
 
 /// A command or a group: title "::=" "<" head ">" *entry.
-fn definition<'t, 'a>(
+fn read_definition<'t, 'a>(
     alloc: Global,
     tokens: &'t [Token<'a>],
     how: Reading,
@@ -70,17 +70,17 @@ fn definition<'t, 'a>(
         (λ fault. IfSyntax fault (λ line. collect how Text (view_words tokens.now) ≡ Err line)) }
     ensures shorter { IfOk result (λ x. length x.1.now < length tokens.now) }
 {
-    match opening(tokens, how) {
+    match read_title_and_head(tokens, how) {
         Ok(((name, head), rest)) => {
             let (rule, rest) = rule(alloc, rest, how)?;
-            Ok((defined(name, head, rule), rest))
+            Ok((command_or_group_item(name, head, rule), rest))
         }
         Err(line) => Err(ItemFault::Syntax(line)),
     }
 }
 
 /// A vendor or an AVP: what follows `@`.
-fn at_item<'t, 'a>(
+fn read_vendor_or_avp<'t, 'a>(
     alloc: Global,
     tokens: &'t [Token<'a>],
     how: Reading,
@@ -92,12 +92,12 @@ fn at_item<'t, 'a>(
     ensures shorter { IfOk result (λ x. length x.1.now < length tokens.now) }
 {
     if begins_vendor(tokens, how) {
-        match vendor_item(tokens, how) {
+        match read_vendor_item(tokens, how) {
             Ok((vendor, rest)) => Ok((Item::Vendor(vendor), rest)),
             Err(line) => Err(ItemFault::Syntax(line)),
         }
     } else {
-        let (avp, rest) = avp_item(alloc, tokens, how)?;
+        let (avp, rest) = read_avp_item(alloc, tokens, how)?;
         Ok((Item::Avp(avp), rest))
     }
 }
@@ -115,15 +115,15 @@ fn item<'t, 'a>(
         (λ fault. IfSyntax fault (λ line. collect how Text (view_words tokens.now) ≡ Err line)) }
     ensures shorter { IfOk result (λ x. length x.1.now < length tokens.now) }
 {
-    let (at, rest) = optional(tokens, Terminal::One(Symbol::At));
+    let (at, rest) = take_token_if(tokens, Terminal::One(Symbol::At));
     match at {
-        Some(_) => at_item(alloc, rest, how),
-        None => definition(alloc, tokens, how),
+        Some(_) => read_vendor_or_avp(alloc, rest, how),
+        None => read_definition(alloc, tokens, how),
     }
 }
 
 /// Puts the next item behind the others, and gives what is left.
-fn next_item<'t, 'a>(
+fn add_next_item<'t, 'a>(
     alloc: Global,
     tokens: &'t [Token<'a>],
     how: Reading,
@@ -145,7 +145,7 @@ fn next_item<'t, 'a>(
 }
 
 /// Puts all items, to the end of the tokens, into a list that is empty.
-fn fill<'a>(
+fn add_all_items<'a>(
     alloc: Global,
     tokens: &[Token<'a>],
     how: Reading,
@@ -159,8 +159,8 @@ fn fill<'a>(
 {
     let mut rest = tokens;
     while !rest.is_empty() {
-        let after = next_item(alloc, rest, how, found)?;
-        rest = same(after);
+        let after = add_next_item(alloc, rest, how, found)?;
+        rest = same_tokens(after);
     }
     Ok(())
 }
@@ -173,12 +173,12 @@ fn items<'a>(alloc: Global, tokens: &[Token<'a>], how: Reading) -> Result<Vec<It
         ≡ Err line)) }
 {
     let mut found = Vec::new(alloc);
-    let done = fill(alloc, tokens, how, &mut found);
+    let done = add_all_items(alloc, tokens, how, &mut found);
     done.and(Ok(found))
 }
 
 /// What the text tells, behind its version.
-fn text_items(alloc: Global, text: &[u8]) -> Result<Vec<Item<'_>>, ItemFault>
+fn read_text_items(alloc: Global, text: &[u8]) -> Result<Vec<Item<'_>>, ItemFault>
     ensures items { IfOk result (λ items. items_or_line text.now ≡ Ok (map view_item items.items)) }
     ensures fault { IfErr result (λ fault. IfSyntax fault (λ line. items_or_line text.now ≡ Err line)) }
 {
@@ -203,5 +203,5 @@ pub fn read_items(alloc: Global, text: &[u8]) -> Result<Vec<Item<'_>>, ItemFault
     // No step of the grammar takes the token there, or the text can't end.
     ensures fault { IfErr result (λ fault. IfSyntax fault (IsSyntaxFault text.now)) }
 {
-    text_items(alloc, text)
+    read_text_items(alloc, text)
 }

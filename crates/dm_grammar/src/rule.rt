@@ -10,7 +10,7 @@ use crate::entry::{begins_entry, entry};
 use crate::fault::ItemFault;
 use crate::item::EntryItem;
 use crate::reading::Reading;
-use crate::step::same;
+use crate::step::same_tokens;
 use crate::token::Token;
 use std::alloc::Global;
 
@@ -32,7 +32,7 @@ pub(crate) fn rule<'t, 'a>(
         match entry(rest, how) {
             Ok((entry, after)) => {
                 entries.push(entry).map_err(|_| ItemFault::NoMemory)?;
-                rest = same(after);
+                rest = same_tokens(after);
             }
             Err(line) => return Err(ItemFault::Syntax(line)),
         }

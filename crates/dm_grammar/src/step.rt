@@ -15,14 +15,14 @@ use crate::token::Token;
 
 /// The same tokens. A loop's variable takes what is left from a call, since the proof can't follow a
 /// slice of tokens out of a tuple into it.
-pub(crate) fn same<'t, 'a>(tokens: &'t [Token<'a>]) -> &'t [Token<'a>]
+pub(crate) fn same_tokens<'t, 'a>(tokens: &'t [Token<'a>]) -> &'t [Token<'a>]
     ensures { result.now ≡ tokens.now }
 {
     tokens
 }
 
 /// The first token, where it is the terminal that a place with one step wants, and the rest.
-pub(crate) fn expect<'t, 'a>(
+pub(crate) fn expect_token<'t, 'a>(
     tokens: &'t [Token<'a>],
     how: Reading,
     terminal: Terminal,
@@ -53,7 +53,7 @@ pub(crate) fn expect<'t, 'a>(
 
 /// The first two tokens, where they are the terminals that a place with one step and the next place want,
 /// and the rest.
-pub(crate) fn two_wanted_tokens<'t, 'a>(
+pub(crate) fn expect_two_tokens<'t, 'a>(
     tokens: &'t [Token<'a>],
     how: Reading,
     first: Terminal,
@@ -66,13 +66,13 @@ pub(crate) fn two_wanted_tokens<'t, 'a>(
         (λ line. collect how p (view_words tokens.now) ≡ Err line) }
     ensures shorter { IfOk result (λ x. length x.1.now < length tokens.now) }
 {
-    let (one, rest) = expect(tokens, how, first)?;
-    let (two, rest) = expect(rest, how, second)?;
+    let (one, rest) = expect_token(tokens, how, first)?;
+    let (two, rest) = expect_token(rest, how, second)?;
     Ok(((one, two), rest))
 }
 
 /// The first token, where it is the terminal, and what is left.
-pub(crate) fn optional<'t, 'a>(
+pub(crate) fn take_token_if<'t, 'a>(
     tokens: &'t [Token<'a>],
     terminal: Terminal,
 ) -> (Option<Token<'a>>, &'t [Token<'a>])
@@ -95,25 +95,25 @@ pub(crate) fn optional<'t, 'a>(
 }
 
 /// Whether the token at a place is there and is the terminal.
-pub(crate) fn stands_at(tokens: &[Token<'_>], place: usize, terminal: Terminal) -> bool
+pub(crate) fn is_terminal_at(tokens: &[Token<'_>], place: usize, terminal: Terminal) -> bool
     ensures { result ≡ begins_with terminal (drop place (view_words tokens.now)) }
 {
     place < tokens.len() && fits(terminal, tokens[place].symbol)
 }
 
 /// Whether the tokens begin with the terminal.
-pub(crate) fn begins(tokens: &[Token<'_>], terminal: Terminal) -> bool
+pub(crate) fn begins_with_terminal(tokens: &[Token<'_>], terminal: Terminal) -> bool
     ensures { result ≡ begins_with terminal (view_words tokens.now) }
 {
-    stands_at(tokens, 0, terminal)
+    is_terminal_at(tokens, 0, terminal)
 }
 
 /// Whether the tokens begin with a name in `<` and `>` and `::=`, which is the title of an item.
 pub(crate) fn begins_title(tokens: &[Token<'_>]) -> bool
     ensures { result ≡ begins_title (view_words tokens.now) }
 {
-    stands_at(tokens, 0, Terminal::One(Symbol::Less))
-        && stands_at(tokens, 1, Terminal::AnyName)
-        && stands_at(tokens, 2, Terminal::One(Symbol::Greater))
-        && stands_at(tokens, 3, Terminal::One(Symbol::Define))
+    is_terminal_at(tokens, 0, Terminal::One(Symbol::Less))
+        && is_terminal_at(tokens, 1, Terminal::AnyName)
+        && is_terminal_at(tokens, 2, Terminal::One(Symbol::Greater))
+        && is_terminal_at(tokens, 3, Terminal::One(Symbol::Define))
 }

@@ -35,7 +35,7 @@ pub enum Symbol {
 }
 
 /// The mark of one octet.
-pub(crate) fn mark_of(octet: u8) -> Symbol
+pub(crate) fn symbol_of_mark(octet: u8) -> Symbol
     ensures { result ≡ mark_of octet }
 {
     if octet == b'<' {

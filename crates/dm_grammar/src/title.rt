@@ -10,9 +10,9 @@ ghost use Rattle.dm_grammar.specs.Told.{collect, filled};
 ghost use Rattle.dm_grammar.specs.Tokens.{Word};
 ghost use Rattle.dm_grammar.specs.Views.{view_word, view_head, view_words};
 
-use crate::head::{Head, command_head, group_head};
+use crate::head::{Head, read_command_head, read_group_head};
 use crate::reading::Reading;
-use crate::step::{expect, optional, two_wanted_tokens};
+use crate::step::{expect_token, expect_two_tokens, take_token_if};
 use crate::symbol::Symbol;
 use crate::terminal::Terminal;
 use crate::token::Token;
@@ -28,7 +28,7 @@ fn fault_line(tokens: &[Token<'_>], how: Reading) -> usize
 }
 
 /// Behind `Diameter`: `Header`, and the rest of a command's head.
-fn command_words<'t, 'a>(
+fn read_header_and_command_head<'t, 'a>(
     tokens: &'t [Token<'a>],
     how: Reading,
 ) -> Result<(Head<'a>, &'t [Token<'a>]), usize>
@@ -38,12 +38,12 @@ fn command_words<'t, 'a>(
         (λ line. collect how CommandWord (view_words tokens.now) ≡ Err line) }
     ensures shorter { IfOk result (λ x. length x.1.now < length tokens.now) }
 {
-    let (_header, rest) = expect(tokens, how, Terminal::One(Symbol::Header))?;
-    command_head(rest, how)
+    let (_header, rest) = expect_token(tokens, how, Terminal::One(Symbol::Header))?;
+    read_command_head(rest, how)
 }
 
 /// Behind `AVP`: `Header`, and the rest of a group's head.
-fn group_words<'t, 'a>(
+fn read_header_and_group_head<'t, 'a>(
     tokens: &'t [Token<'a>],
     how: Reading,
 ) -> Result<(Head<'a>, &'t [Token<'a>]), usize>
@@ -53,8 +53,8 @@ fn group_words<'t, 'a>(
         (λ line. collect how GroupWord (view_words tokens.now) ≡ Err line) }
     ensures shorter { IfOk result (λ x. length x.1.now < length tokens.now) }
 {
-    let (_header, rest) = expect(tokens, how, Terminal::One(Symbol::Header))?;
-    group_head(rest, how)
+    let (_header, rest) = expect_token(tokens, how, Terminal::One(Symbol::Header))?;
+    read_group_head(rest, how)
 }
 
 /// A head: ("Diameter" "Header" | "Diameter-Header") or ("AVP" "Header" | "AVP-Header"), and its rest.
@@ -69,16 +69,16 @@ fn head<'t, 'a>(tokens: &'t [Token<'a>], how: Reading) -> Result<(Head<'a>, &'t 
         return Err(how.last);
     };
     match first.symbol {
-        Symbol::Diameter => command_words(rest, how),
-        Symbol::DiameterHeader => command_head(rest, how),
-        Symbol::Avp => group_words(rest, how),
-        Symbol::AvpHeader => group_head(rest, how),
+        Symbol::Diameter => read_header_and_command_head(rest, how),
+        Symbol::DiameterHeader => read_command_head(rest, how),
+        Symbol::Avp => read_header_and_group_head(rest, how),
+        Symbol::AvpHeader => read_group_head(rest, how),
         _ => Err(first.line),
     }
 }
 
 /// A title without brackets: name.
-fn bare_title<'t, 'a>(
+fn read_bare_title<'t, 'a>(
     tokens: &'t [Token<'a>],
     how: Reading,
 ) -> Result<(Token<'a>, &'t [Token<'a>]), usize>
@@ -91,7 +91,7 @@ fn bare_title<'t, 'a>(
         (λ line. collect how Text (view_words tokens.now) ≡ Err line) }
     ensures shorter { IfOk result (λ x. length x.1.now < length tokens.now) }
 {
-    let (name, rest) = optional(tokens, Terminal::AnyName);
+    let (name, rest) = take_token_if(tokens, Terminal::AnyName);
     match name {
         Some(name) => Ok((name, rest)),
         None => Err(fault_line(tokens, how)),
@@ -111,10 +111,10 @@ fn title<'t, 'a>(
         (λ line. collect how Text (view_words tokens.now) ≡ Err line) }
     ensures shorter { IfOk result (λ x. length x.1.now < length tokens.now) }
 {
-    let (less, rest) = optional(tokens, Terminal::One(Symbol::Less));
+    let (less, rest) = take_token_if(tokens, Terminal::One(Symbol::Less));
     match less {
         Some(_) => {
-            let (words, rest) = two_wanted_tokens(
+            let (words, rest) = expect_two_tokens(
                 rest,
                 how,
                 Terminal::AnyName,
@@ -122,12 +122,12 @@ fn title<'t, 'a>(
             )?;
             Ok((words.0, rest))
         }
-        None => bare_title(tokens, how),
+        None => read_bare_title(tokens, how),
     }
 }
 
 /// title "::=" "<"
-fn titled<'t, 'a>(
+fn read_title_and_marks<'t, 'a>(
     tokens: &'t [Token<'a>],
     how: Reading,
 ) -> Result<(Token<'a>, &'t [Token<'a>]), usize>
@@ -140,7 +140,7 @@ fn titled<'t, 'a>(
     ensures shorter { IfOk result (λ x. length x.1.now < length tokens.now) }
 {
     let (name, rest) = title(tokens, how)?;
-    let (_marks, rest) = two_wanted_tokens(
+    let (_marks, rest) = expect_two_tokens(
         rest,
         how,
         Terminal::One(Symbol::Define),
@@ -150,7 +150,7 @@ fn titled<'t, 'a>(
 }
 
 /// title "::=" "<" head ">"
-pub(crate) fn opening<'t, 'a>(
+pub(crate) fn read_title_and_head<'t, 'a>(
     tokens: &'t [Token<'a>],
     how: Reading,
 ) -> Result<((Token<'a>, Head<'a>), &'t [Token<'a>]), usize>
@@ -162,7 +162,7 @@ pub(crate) fn opening<'t, 'a>(
         (λ line. collect how Text (view_words tokens.now) ≡ Err line) }
     ensures shorter { IfOk result (λ x. length x.1.now < length tokens.now) }
 {
-    let (name, rest) = titled(tokens, how)?;
+    let (name, rest) = read_title_and_marks(tokens, how)?;
     let (head, rest) = head(rest, how)?;
     Ok(((name, head), rest))
 }

@@ -9,14 +9,14 @@ ghost use Rattle.dm_grammar.specs.Views.{view_value, view_words};
 use crate::fault::ItemFault;
 use crate::item::ValueItem;
 use crate::reading::Reading;
-use crate::step::{same, two_wanted_tokens};
+use crate::step::{expect_two_tokens, same_tokens};
 use crate::symbol::Symbol;
 use crate::terminal::{Terminal, fits};
 use crate::token::Token;
 use std::alloc::Global;
 
 /// `,` before another value, or `}`: whether another value follows.
-fn value_end<'t, 'a>(
+fn read_value_end<'t, 'a>(
     tokens: &'t [Token<'a>],
     how: Reading,
 ) -> Result<(bool, &'t [Token<'a>]), usize>
@@ -48,13 +48,13 @@ fn value<'t, 'a>(
         (λ line. collect how ListOpen (view_words tokens.now) ≡ Err line) }
     ensures shorter { IfOk result (λ x. length x.1.now < length tokens.now) }
 {
-    let (words, rest) = two_wanted_tokens(
+    let (words, rest) = expect_two_tokens(
         tokens,
         how,
         Terminal::AnyName,
         Terminal::One(Symbol::Number),
     )?;
-    let (more, rest) = value_end(rest, how)?;
+    let (more, rest) = read_value_end(rest, how)?;
     let value = ValueItem {
         name: words.0,
         number: words.1,
@@ -82,7 +82,7 @@ pub(crate) fn values<'t, 'a>(
         match value(rest, how) {
             Ok(((value, goes_on), after)) => {
                 found.push(value).map_err(|_| ItemFault::NoMemory)?;
-                rest = same(after);
+                rest = same_tokens(after);
                 more = goes_on;
             }
             Err(line) => return Err(ItemFault::Syntax(line)),

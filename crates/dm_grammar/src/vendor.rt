@@ -10,7 +10,7 @@ ghost use Rattle.dm_grammar.specs.Views.{view_option, view_reference_option, vie
 
 use crate::item::{VendorItem, VendorWord};
 use crate::reading::{Reading, Version};
-use crate::step::{begins, expect, optional, stands_at};
+use crate::step::{begins_with_terminal, expect_token, is_terminal_at, take_token_if};
 use crate::symbol::Symbol;
 use crate::terminal::Terminal;
 use crate::token::Token;
@@ -22,14 +22,14 @@ pub(crate) fn begins_vendor(tokens: &[Token<'_>], how: Reading) -> bool
     match how.version {
         Version::First => false,
         Version::Second => {
-            stands_at(tokens, 0, Terminal::One(Symbol::Vendor))
-                && stands_at(tokens, 1, Terminal::AnyName)
+            is_terminal_at(tokens, 0, Terminal::One(Symbol::Vendor))
+                && is_terminal_at(tokens, 1, Terminal::AnyName)
         }
     }
 }
 
 /// What follows `@` of a vendor: `vendor` name number.
-pub(crate) fn vendor_item<'t, 'a>(
+pub(crate) fn read_vendor_item<'t, 'a>(
     tokens: &'t [Token<'a>],
     how: Reading,
 ) -> Result<(VendorItem<'a>, &'t [Token<'a>]), usize>
@@ -40,14 +40,14 @@ pub(crate) fn vendor_item<'t, 'a>(
         (λ line. collect how AtSign (view_words tokens.now) ≡ Err line) }
     ensures shorter { IfOk result (λ x. length x.1.now < length tokens.now) }
 {
-    let (_word, rest) = expect(tokens, how, Terminal::One(Symbol::Vendor))?;
-    let (name, rest) = expect(rest, how, Terminal::AnyName)?;
-    let (number, rest) = expect(rest, how, Terminal::One(Symbol::Number))?;
+    let (_word, rest) = expect_token(tokens, how, Terminal::One(Symbol::Vendor))?;
+    let (name, rest) = expect_token(rest, how, Terminal::AnyName)?;
+    let (number, rest) = expect_token(rest, how, Terminal::One(Symbol::Number))?;
     Ok((VendorItem { name, number }, rest))
 }
 
 /// A vendor by its name, or else by its number.
-pub(crate) fn vendor_told<'a>(
+pub(crate) fn named_or_numbered_vendor<'a>(
     named: Option<Token<'a>>,
     number: Option<Token<'a>>,
 ) -> Option<VendorWord<'a>>
@@ -61,7 +61,10 @@ pub(crate) fn vendor_told<'a>(
 }
 
 /// `:` before a vendor's name, where it is there and the text of version 2.
-pub(crate) fn colon<'t, 'a>(tokens: &'t [Token<'a>], how: Reading) -> (bool, &'t [Token<'a>])
+pub(crate) fn read_vendor_colon<'t, 'a>(
+    tokens: &'t [Token<'a>],
+    how: Reading,
+) -> (bool, &'t [Token<'a>])
     ensures named { result.0 ≡ begins_named how.version (view_words tokens.now) }
     ensures rest { view_words result.1.now
         ≡ (if result.0 then drop 1 (view_words tokens.now) else view_words tokens.now) }
@@ -70,7 +73,7 @@ pub(crate) fn colon<'t, 'a>(tokens: &'t [Token<'a>], how: Reading) -> (bool, &'t
     match how.version {
         Version::First => (false, tokens),
         Version::Second => {
-            if begins(tokens, Terminal::One(Symbol::Colon)) {
+            if begins_with_terminal(tokens, Terminal::One(Symbol::Colon)) {
                 (true, &tokens[1..])
             } else {
                 (false, tokens)
@@ -80,7 +83,7 @@ pub(crate) fn colon<'t, 'a>(tokens: &'t [Token<'a>], how: Reading) -> (bool, &'t
 }
 
 /// [vend]: number | ":" name.
-pub(crate) fn vendor_word<'t, 'a>(
+pub(crate) fn read_vendor_word<'t, 'a>(
     tokens: &'t [Token<'a>],
     how: Reading,
 ) -> Result<(Option<VendorWord<'a>>, &'t [Token<'a>]), usize>
@@ -90,12 +93,12 @@ pub(crate) fn vendor_word<'t, 'a>(
         (λ line. collect how p (view_words tokens.now) ≡ Err line) }
     ensures shorter { IfOk result (λ x. length x.1.now ≤ length tokens.now) }
 {
-    let (named, behind) = colon(tokens, how);
+    let (named, behind) = read_vendor_colon(tokens, how);
     if named {
-        let (name, rest) = expect(behind, how, Terminal::AnyName)?;
+        let (name, rest) = expect_token(behind, how, Terminal::AnyName)?;
         Ok((Some(VendorWord::Named(name)), rest))
     } else {
-        let (number, rest) = optional(tokens, Terminal::One(Symbol::Number));
-        Ok((vendor_told(None, number), rest))
+        let (number, rest) = take_token_if(tokens, Terminal::One(Symbol::Number));
+        Ok((named_or_numbered_vendor(None, number), rest))
     }
 }

@@ -17,7 +17,7 @@ fn is_two(token: Token<'_>) -> bool
 }
 
 /// Whether the first two tokens are `@` and `2`.
-fn is_second(tokens: &[Token<'_>]) -> bool
+fn begins_second_version(tokens: &[Token<'_>]) -> bool
     ensures { result ≡ is_second (view_words tokens.now) }
 {
     match tokens {
@@ -31,7 +31,7 @@ pub(crate) fn version_and_body<'t, 'a>(tokens: &'t [Token<'a>]) -> (Version, &'t
     ensures version { result.0 ≡ version_of (view_words tokens.now) }
     ensures body { view_words result.1.now ≡ body_of (view_words tokens.now) }
 {
-    if is_second(tokens) {
+    if begins_second_version(tokens) {
         (Version::Second, &tokens[2..])
     } else {
         (Version::First, tokens)

@@ -6,8 +6,8 @@ use Rattle.dm_grammar.specs.Views.{view_words}
 use Rattle.dm_grammar.proofs.Rules.{rule_bracket}
 use Rattle.dm_grammar.proofs.entry.entry.Goals as goal
 
-pub returns-else-begins-clause-tells : goal.returns-else-begins-clause-tells
-returns-else-begins-clause-tells c =
-    let none = rw c.in-None.is at c.optional.ensures.tells in
+pub returns-else-begins_with_terminal-clause-tells : goal.returns-else-begins_with_terminal-clause-tells
+returns-else-begins_with_terminal-clause-tells c =
+    let none = rw c.in-None.is at c.take_token_if.ensures.tells in
     let star : begins_with (One Star) (view_words c.args.tokens.now) ≡ false = cc in
-    rw (rule_bracket c.args.how (view_words c.args.tokens.now) c.requires none.1 star) c.bracketed.ensures.tells
+    rw (rule_bracket c.args.how (view_words c.args.tokens.now) c.requires none.1 star) c.read_bracketed_name.ensures.tells

@@ -9,7 +9,7 @@ use Rattle.dm_grammar.proofs.lex.word_len.Goals as goal
 pub returns-then-run-lt16 : goal.returns-then-run-lt16
 returns-then-run-lt16 c =
     let n = c.loop-n.n in
-    ap (λ k. n + k) (sym (run_ends c.args.text.now n c.word_run-run.result (omega arith) c.word_run-run.ensures.value (omega arith)))
+    ap (λ k. n + k) (sym (run_ends c.args.text.now n c.word_len_of_sixteen-run.result (omega arith) c.word_len_of_sixteen-run.ensures.value (omega arith)))
     ∙ c.loop-n.invariant.1
 
 pub loop-n-preserved : goal.loop-n-preserved
@@ -17,8 +17,8 @@ loop-n-preserved c =
     let n = c.loop-n.n in
     let text = c.args.text.now in
     let (within, same) = c.loop-n.invariant in
-    let whole : c.word_run-run.result ≡ 16 = omega (arith, c.word_run-run.ensures.within, c.if-run-lt16.false) in
-    let goes = run_goes_on text n (omega arith) (sym whole ∙ c.word_run-run.ensures.value) in
+    let whole : c.word_len_of_sixteen-run.result ≡ 16 = omega (arith, c.word_len_of_sixteen-run.ensures.within, c.if-run-lt16.false) in
+    let goes = run_goes_on text n (omega arith) (sym whole ∙ c.word_len_of_sixteen-run.ensures.value) in
     rw whole (omega arith, omega (arith, goes, same))
 
 pub overflow_add-result : goal.overflow_add-result

@@ -16,8 +16,8 @@ loop-how-preserved c =
     let pushed : c.push.new.self.items ≡ c.loop-how.entries.items ++ c.in-Ok.entry ∷ [] =
     rw done at c.push.ensures.items in
     record {
-      shorter = rw c.same-rest.ensures (omega (arith, c.in-Ok.ensures.shorter));
-      tells = rw (pushed, c.same-rest.ensures, map_push) (c.loop-how.invariant.tells
+      shorter = rw c.same_tokens-rest.ensures (omega (arith, c.in-Ok.ensures.shorter));
+      tells = rw (pushed, c.same_tokens-rest.ensures, map_push) (c.loop-how.invariant.tells
           ∙ (ap (with_entries (map view_entry c.loop-how.entries.items)) c.in-Ok.ensures.tells
           ∙ sym (with_entries-push (map view_entry c.loop-how.entries.items) (view_entry c.in-Ok.entry)
           (collect c.args.how InRule (view_words c.in-Ok.after.now)))));

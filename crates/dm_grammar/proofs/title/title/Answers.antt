@@ -10,20 +10,20 @@ use Rattle.dm_grammar.proofs.title.title.Goals as goal
 
 pub returns-in_err-words-in-Some-clause-tells : goal.returns-in_err-words-in-Some-clause-tells
 returns-in_err-words-in-Some-clause-tells c =
-    let less = rw c.in-Some.is at c.optional.ensures.tells in
+    let less = rw c.in-Some.is at c.take_token_if.ensures.tells in
     handed_on _ _ c.from_residual.result _ c.from_residual.ensures.1
     (less_title c.args.how (view_word c.in-Some.field-0) (view_words c.args.tokens.now)
-    (view_words c.optional.result.1.now) less.0 less.1
+    (view_words c.take_token_if.result.1.now) less.0 less.1
     ∙ ap (filled BeginsItem (view_word c.in-Some.field-0))
     (c.in_err-words-in-Some.ensures.tells TitleLess TitleName Titled TitleIs NoPart refl refl refl refl))
 
 pub returns-in_ok-words-in-Some-clause-tells : goal.returns-in_ok-words-in-Some-clause-tells
 returns-in_ok-words-in-Some-clause-tells c =
-    let less = rw c.in-Some.is at c.optional.ensures.tells in
+    let less = rw c.in-Some.is at c.take_token_if.ensures.tells in
     let words = c.in_ok-words-in-Some.words in
     let rest = collect c.args.how Titled (view_words c.in_ok-words-in-Some.rest.now) in
     less_title c.args.how (view_word c.in-Some.field-0) (view_words c.args.tokens.now)
-    (view_words c.optional.result.1.now) less.0 less.1
+    (view_words c.take_token_if.result.1.now) less.0 less.1
     ∙ (ap (filled BeginsItem (view_word c.in-Some.field-0))
     (c.in_ok-words-in-Some.ensures.tells TitleLess TitleName Titled TitleIs NoPart refl refl refl refl
     ∙ ap (filled TitleIs (view_word words.0)) (nothing_told (view_word words.1) rest))

@@ -15,8 +15,8 @@ loop-more-preserved c =
     rw done at c.push.ensures.items in
     let before = rw more at c.loop-more.invariant.tells in
     record {
-      shorter = rw c.same-rest.ensures (omega (arith, c.in-Ok.ensures.shorter));
-      tells = rw (pushed, c.same-rest.ensures, map_push) (before
+      shorter = rw c.same_tokens-rest.ensures (omega (arith, c.in-Ok.ensures.shorter));
+      tells = rw (pushed, c.same_tokens-rest.ensures, map_push) (before
           ∙ (ap (with_each (map view_value c.loop-more.found.items)) c.in-Ok.ensures.tells
           ∙ sym (with_each-push (map view_value c.loop-more.found.items) (view_value c.in-Ok.value)
           (collect c.args.how (behind_brace c.in-Ok.goes_on) (view_words c.in-Ok.after.now)))));

@@ -10,7 +10,8 @@ returns-clause-good c =
     let from = c.args.from in
     λ none i le so.
     let (left, right) = c.lower_marks.ensures.both none in
-    let (run, good) = run_read word c.digit_marks-front.result c.digit_marks-back.result (2 * from) c.digit_marks-front.ensures
+    let (run, good) = run_read word c.digit_marks-front.result c.digit_marks-back.result (2 * from)
+    c.digit_marks-front.ensures
     c.digit_marks-back.ensures left right in
     rw (c.octets_of_marks.ensures left right ∙ run)
     (read_more word octets from (2 * from) 16 i (omega arith) c.requires.twice c.requires.within le good so)

@@ -4,7 +4,8 @@ use Rattle.dm_text.proofs.Read.{read_bad, told}
 use Rattle.dm_text.proofs.hexadecimal.read_sixteen_or_more.Goals as goal
 
 pub returns-then-not-read_runs_of_sixteen : goal.returns-then-not-read_runs_of_sixteen
-returns-then-not-read_runs_of_sixteen c = read_bad c.args.word.now (omega arith) (c.read_runs_of_sixteen.ensures.bad c.if-not-read_runs_of_sixteen.true)
+returns-then-not-read_runs_of_sixteen c =
+    read_bad c.args.word.now (omega arith) (c.read_runs_of_sixteen.ensures.bad c.if-not-read_runs_of_sixteen.true)
 
 pub returns : goal.returns
 returns c =

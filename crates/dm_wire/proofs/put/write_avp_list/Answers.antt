@@ -15,6 +15,7 @@ loop-left-preserved c =
     let long : c.header_len.result + length bytes ≡ avp_length (avp_of c.borrowed-avp.result) =
     ap (λ n. n + length bytes) c.header_len.ensures.len in
     rw (take_rest left 1)
-    (one_written c.avp-item.result c.loop-left.room c.write_fitting_avp.new.room c.loop-left.place _ left _ c.args.avps.now
+    (one_written c.avp-item.result c.loop-left.room c.write_fitting_avp.new.room c.loop-left.place _ left _
+    c.args.avps.now
     whole (c.write_fitting_avp.ensures ∙ ap canonical_avp c.borrowed-avp.ensures)
     (ap (λ n. (n + 3) / 4 * 4) (long ∙ ap avp_length c.borrowed-avp.ensures)) c.loop-left.invariant)

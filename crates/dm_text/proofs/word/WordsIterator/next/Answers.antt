@@ -5,7 +5,8 @@ use Rattle.dm_text.proofs.word.WordsIterator.next.Goals as goal
 pub returns-in-Some-clause-steps : goal.returns-in-Some-clause-steps
 returns-in-Some-clause-steps c =
     rw (← c.self.view_is)
-    (words-fed c.self.inside.rest.now c.without_leading_spaces-rest.result.now c.in-Some.end c.without_leading_spaces-rest.ensures
+    (words-fed c.self.inside.rest.now c.without_leading_spaces-rest.result.now c.in-Some.end
+    c.without_leading_spaces-rest.ensures
     (sym c.first_space.ensures ∙ c.in-Some.is))
 
 pub returns-in-Some-clause-goes : goal.returns-in-Some-clause-goes
@@ -22,7 +23,8 @@ returns-in-None-clause-steps c =
 
 pub returns-in-None-clause-goes : goal.returns-in-None-clause-goes
 returns-in-None-clause-goes c =
-    let last = words-last c.self.inside.rest.now c.without_leading_spaces-rest.result.now c.without_leading_spaces-rest.ensures
+    let last = words-last c.self.inside.rest.now c.without_leading_spaces-rest.result.now
+    c.without_leading_spaces-rest.ensures
     (sym c.first_space.ensures ∙ c.in-None.is) (sym c.is_empty.ensures ∙ c.if-is_empty.false) in
     rw (← c.self.view_is) (record { on = λ _. (tt, tt, rw last (omega arith)); keeps = tt; rests = λ _. tt })
 
