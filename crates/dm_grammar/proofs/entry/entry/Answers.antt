@@ -10,4 +10,5 @@ pub returns-else-begins_with_terminal-clause-tells : goal.returns-else-begins_wi
 returns-else-begins_with_terminal-clause-tells c =
     let none = rw c.in-None.is at c.take_token_if.ensures.tells in
     let star : begins_with (One Star) (view_words c.args.tokens.now) ≡ false = cc in
-    rw (rule_bracket c.args.how (view_words c.args.tokens.now) c.requires none.1 star) c.read_bracketed_name.ensures.tells
+    rw (rule_bracket c.args.how (view_words c.args.tokens.now) c.requires none.1 star)
+    c.read_bracketed_name.ensures.tells

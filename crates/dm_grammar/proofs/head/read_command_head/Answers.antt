@@ -38,5 +38,6 @@ returns-clause-tells c = λ w.
     ∙ ap (λ r. flagged RequestFlag c.read_flag-request.result.0
     (flagged ProxiableFlag c.read_flag-proxiable.result.0 (flagged ErrorFlag c.read_flag-error.result.0 r)))
     c.in_ok-second.ensures.tells)))
-    ∙ command_told w (view_word words.1) c.read_flag-request.result.0 c.read_flag-proxiable.result.0 c.read_flag-error.result.0
+    ∙ command_told w (view_word words.1) c.read_flag-request.result.0 c.read_flag-proxiable.result.0
+    c.read_flag-error.result.0
     (view_option c.in_ok-second.second) (collect c.args.how InRule (view_words c.in_ok-second.rest.now))

@@ -17,7 +17,8 @@ loop-n-preserved c =
     let n = c.loop-n.n in
     let text = c.args.text.now in
     let (within, same) = c.loop-n.invariant in
-    let whole : c.word_len_of_sixteen-run.result ≡ 16 = omega (arith, c.word_len_of_sixteen-run.ensures.within, c.if-run-lt16.false) in
+    let whole : c.word_len_of_sixteen-run.result ≡ 16 =
+    omega (arith, c.word_len_of_sixteen-run.ensures.within, c.if-run-lt16.false) in
     let goes = run_goes_on text n (omega arith) (sym whole ∙ c.word_len_of_sixteen-run.ensures.value) in
     rw whole (omega arith, omega (arith, goes, same))
 

@@ -15,5 +15,6 @@ returns-else-ends-eq0-clause-value c =
 pub returns-else-ends-eq0-clause-within : goal.returns-else-ends-eq0-clause-within
 returns-else-ends-eq0-clause-within c =
     let octets = c.args.octets in
-    let is = first_end octets c.word_end_mask-ends.result c.fits-octets.0 c.word_end_mask-ends.ensures c.if-ends-eq0.false in
+    let is = first_end octets c.word_end_mask-ends.result c.fits-octets.0 c.word_end_mask-ends.ensures
+    c.if-ends-eq0.false in
     omega (arith, is, prefix_len-le-length goes_on octets, c.fits-octets.0)
