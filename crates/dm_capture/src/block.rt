@@ -12,7 +12,7 @@ const LEAST_BLOCK: usize = 12;
 const MOST_BLOCK: usize = 16_777_216;
 
 /// How many octets the block at the front takes; `None` where it isn't whole yet.
-pub(crate) fn whole_block(order: Order, octets: &[u8]) -> Result<Option<usize>, FaultKind>
+pub(crate) fn whole_block_size(order: Order, octets: &[u8]) -> Result<Option<usize>, FaultKind>
     requires { 8 ≤ length octets.now }
     ensures within { IfOk result (λ found. IfSome found (λ size. size ≤ length octets.now)) }
     ensures least { IfOk result (λ found. IfSome found (λ size. 12 ≤ size)) }

@@ -6,7 +6,7 @@ use crate::fault::FaultKind;
 use crate::interface::Interface;
 use crate::order::Order;
 use crate::packet::Record;
-use crate::pcap::{PcapForm, first_at, record_at};
+use crate::pcap::{PcapForm, file_header_at, record_at};
 use crate::section::block_at;
 
 /// What is known of the file so far, but for a section's interfaces.
@@ -43,7 +43,7 @@ pub(crate) struct Found {
 }
 
 /// The whole header, record or block at the front; `None` where it isn't whole yet.
-pub(crate) fn front_at(
+pub(crate) fn item_at_front(
     layout: Layout,
     interfaces: &[Interface],
     octets: &[u8],
@@ -55,7 +55,7 @@ pub(crate) fn front_at(
     ensures fault { IfErr result (HasFrontFault layout interfaces.now octets.now) }
 {
     match layout {
-        Layout::Start => first_at(octets),
+        Layout::Start => file_header_at(octets),
         Layout::Pcap(form) => record_at(form, octets),
         Layout::Pcapng(order) => block_at(order, interfaces, octets),
     }

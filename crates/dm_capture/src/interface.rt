@@ -5,7 +5,7 @@ ghost use Rattle.dm_capture.specs.Interfaces.{IsInterface, HasInterfaceFault, Is
 use crate::fault::FaultKind;
 use crate::options::option_value;
 use crate::order::{Order, u16_at, u32_at, u64_of};
-use crate::time::{Resolution, resolution_at};
+use crate::time::{Resolution, resolution_from_octet};
 
 /// The octets of a description without options.
 const LEAST_LEN: usize = 20;
@@ -31,7 +31,7 @@ pub(crate) struct Interface {
 }
 
 /// What a block says that is an interface's description, in a section that describes these before it.
-pub(crate) fn interface_of(
+pub(crate) fn read_interface(
     order: Order,
     interfaces: &[Interface],
     block: &[u8],
@@ -61,7 +61,7 @@ fn resolution_said(order: Order, options: &[u8]) -> Resolution
     ensures { IsResolution order options.now result }
 {
     match option_value(order, options, TIME_RESOLUTION, 1) {
-        Some(value) => resolution_at(value[0]),
+        Some(value) => resolution_from_octet(value[0]),
         None => Resolution::Decimal(6),
     }
 }

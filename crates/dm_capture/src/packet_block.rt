@@ -20,7 +20,7 @@ const TIMED_LEN: usize = 32;
 const SIMPLE_LEN: usize = 16;
 
 /// The number of the interface that an enhanced packet block names in four octets, and the obsolete one in two.
-fn interface_named(order: Order, block: &[u8]) -> usize
+fn number_of_interface(order: Order, block: &[u8]) -> usize
     requires { 12 ≤ length block.now }
     ensures { result ≡ interface_number order block.now }
 {
@@ -44,14 +44,18 @@ pub(crate) fn timed_packet(
     if block.len() < TIMED_LEN {
         return Err(FaultKind::WrongLength);
     }
-    match interface_at(interfaces, interface_named(order, block)) {
-        Some(interface) => described_packet(order, interface, block),
+    match interface_at(interfaces, number_of_interface(order, block)) {
+        Some(interface) => timed_packet_of_interface(order, interface, block),
         None => Err(FaultKind::UnknownInterface),
     }
 }
 
-/// The packet of such a block, whose interface is described.
-fn described_packet(order: Order, interface: Interface, block: &[u8]) -> Result<Record, FaultKind>
+/// The packet of an enhanced packet block, or of the obsolete one, which was captured on this interface.
+fn timed_packet_of_interface(
+    order: Order,
+    interface: Interface,
+    block: &[u8],
+) -> Result<Record, FaultKind>
     requires { 32 ≤ length block.now }
     ensures packet { IfOk result (IsTimedPacket order interface block.now) }
     ensures fault { IfErr result (HasCapturedFault order block.now) }
@@ -74,7 +78,7 @@ fn described_packet(order: Order, interface: Interface, block: &[u8]) -> Result<
 }
 
 /// How many octets a simple packet block has of its packet: all, or as many as its interface's limit.
-fn captured_of_simple(interface: Interface, original: u32) -> usize
+fn captured_len_of_simple(interface: Interface, original: u32) -> usize
     ensures { result ≡ simple_captured interface original }
 {
     if interface.limit == 0 {
@@ -98,13 +102,13 @@ pub(crate) fn simple_packet(
         return Err(FaultKind::WrongLength);
     }
     match interface_at(interfaces, 0) {
-        Some(interface) => first_interface_packet(order, interface, block),
+        Some(interface) => simple_packet_of_interface(order, interface, block),
         None => Err(FaultKind::UnknownInterface),
     }
 }
 
-/// The packet of such a block, whose interface is described.
-fn first_interface_packet(
+/// The packet of a simple packet block, which was captured on this interface.
+fn simple_packet_of_interface(
     order: Order,
     interface: Interface,
     block: &[u8],
@@ -114,7 +118,7 @@ fn first_interface_packet(
     ensures fault { IfErr result (HasSimpleLengthFault order interface block.now) }
 {
     let original = u32_at(order, block, 8);
-    let captured = captured_of_simple(interface, original);
+    let captured = captured_len_of_simple(interface, original);
     if block.len() < SIMPLE_LEN + captured {
         return Err(FaultKind::WrongLength);
     }

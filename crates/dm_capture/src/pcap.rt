@@ -35,7 +35,7 @@ pub(crate) struct PcapForm {
 }
 
 /// The header of a file, or the first section's, at its front.
-pub(crate) fn first_at(octets: &[u8]) -> Result<Option<Found>, FaultKind>
+pub(crate) fn file_header_at(octets: &[u8]) -> Result<Option<Found>, FaultKind>
     ensures within { IfOk result (λ found. IfSome found (λ f. (0 < f.size) × (f.size ≤ length octets.now))) }
     ensures item { IfOk result (λ found. IfSome found (λ f. IsItem Start [] (take f.size octets.now) f.holds)) }
     ensures part { IfOk result (λ found. IfNone found (IsPart Start octets.now)) }
@@ -48,7 +48,7 @@ pub(crate) fn first_at(octets: &[u8]) -> Result<Option<Found>, FaultKind>
         return section_at(octets);
     }
     match magic_at(octets) {
-        Some((order, resolution)) => header_at(order, resolution, octets),
+        Some((order, resolution)) => pcap_header_at(order, resolution, octets),
         None => Err(FaultKind::NoCapture),
     }
 }
@@ -74,7 +74,7 @@ fn magic_at(octets: &[u8]) -> Option<(Order, Resolution)>
 }
 
 /// The header of a pcap file whose first octets gave its order and resolution.
-fn header_at(
+fn pcap_header_at(
     order: Order,
     resolution: Resolution,
     octets: &[u8],
@@ -123,7 +123,7 @@ pub(crate) fn record_at(form: PcapForm, octets: &[u8]) -> Result<Option<Found>, 
     if octets.len() < size {
         return Ok(None);
     }
-    let record = record_of(form, captured, &octets[..size]);
+    let record = record_fields(form, captured, &octets[..size]);
     Ok(Some(Found {
         size,
         holds: Holds::PacketRecord(record),
@@ -131,7 +131,7 @@ pub(crate) fn record_at(form: PcapForm, octets: &[u8]) -> Result<Option<Found>, 
 }
 
 /// What a record of so many octets says.
-fn record_of(form: PcapForm, captured: usize, octets: &[u8]) -> Record
+fn record_fields(form: PcapForm, captured: usize, octets: &[u8]) -> Record
     requires { 16 ≤ length octets.now }
     ensures { result ≡ pcap_record form captured octets.now }
 {

@@ -11,7 +11,7 @@ ghost use Rattle.dm_capture.specs.Packets.{captured_of, packet_of};
 
 use crate::buffer::drop_taken;
 use crate::fault::{CaptureFault, FaultKind};
-use crate::front::{Found, Holds, Layout, front_at};
+use crate::front::{Found, Holds, Layout, item_at_front};
 use crate::interface::Interface;
 use crate::packet::{Packet, Record, packet_from};
 use std::alloc::{AllocError, Global};
@@ -89,34 +89,34 @@ impl CaptureReader {
             return Err(fault);
         }
         'items: loop {
-            match self.front() {
+            match self.front_item() {
                 Ok(Some(found)) => match found.holds {
                     Holds::PacketRecord(stands) => return self.take_packet(found.size, stands),
-                    holds => self.pass(found.size, holds)?,
+                    holds => self.pass_item(found.size, holds)?,
                 },
                 Ok(None) => return Ok(None),
-                Err(kind) => return Err(self.refuse(kind)),
+                Err(kind) => return Err(self.keep_fault(kind)),
             }
         }
     }
 
     /// What stands at the front of the octets that are left.
-    fn front(&self) -> Result<Option<Found>, FaultKind>
+    fn front_item(&self) -> Result<Option<Found>, FaultKind>
         ensures within { IfOk result (λ found. IfSome found (λ f. (0 < f.size) × (f.size ≤ length self.now.octets))) }
         ensures item { IfOk result (λ found. IfSome found (λ f.
             IsItem self.now.layout self.now.interfaces (take f.size self.now.octets) f.holds)) }
         ensures part { IfOk result (λ found. IfNone found (IsPart self.now.layout self.now.octets)) }
         ensures fault { IfErr result (HasFrontFault self.now.layout self.now.interfaces self.now.octets) }
     {
-        front_at(self.layout, &self.interfaces, &self.buffer[self.taken..])
+        item_at_front(self.layout, &self.interfaces, &self.buffer[self.taken..])
     }
 
     /// Keeps a fault that stands at the front, and answers it with its place.
-    fn refuse(&mut self, kind: FaultKind) -> CaptureFault
+    fn keep_fault(&mut self, kind: FaultKind) -> CaptureFault
         ensures said { result ≡ record { offset = self.old.offset; kind = kind } }
         ensures kept { self.new ≡ record self.old { fault = Some result } }
     {
-        let fault = self.fault_here(kind);
+        let fault = self.fault_at_front(kind);
         self.fault = Some(fault);
         fault
     }
@@ -129,7 +129,7 @@ impl CaptureReader {
     }
 
     /// A fault of what stands at the front.
-    pub(crate) fn fault_here(&self, kind: FaultKind) -> CaptureFault
+    pub(crate) fn fault_at_front(&self, kind: FaultKind) -> CaptureFault
         ensures { result ≡ record { offset = self.now.offset; kind = kind } }
     {
         CaptureFault {
@@ -139,7 +139,7 @@ impl CaptureReader {
     }
 
     /// Passes what stands at the front, and notes what it says of the file.
-    fn pass(&mut self, size: usize, holds: Holds) -> Result<(), CaptureFault>
+    fn pass_item(&mut self, size: usize, holds: Holds) -> Result<(), CaptureFault>
         requires { size ≤ length self.old.octets }
         ensures passed { OnOk result (self.new ≡ passed self.old size holds (drop size self.old.octets)) }
         ensures err { OnErr result (self.new ≡ self.old) }
@@ -154,7 +154,7 @@ impl CaptureReader {
             }
             Holds::Description(interface) => {
                 if self.interfaces.push(interface).is_err() {
-                    return Err(self.fault_here(FaultKind::OutOfMemory));
+                    return Err(self.fault_at_front(FaultKind::OutOfMemory));
                 }
             }
             Holds::PacketRecord(_) => self.packets = self.packets.saturating_add(1),
@@ -187,7 +187,7 @@ impl CaptureReader {
                 self.offset = self.offset.saturating_add(size as u64);
                 Ok(Some(packet))
             }
-            Err(_) => Err(self.fault_here(FaultKind::OutOfMemory)),
+            Err(_) => Err(self.fault_at_front(FaultKind::OutOfMemory)),
         }
     }
 
@@ -198,10 +198,10 @@ impl CaptureReader {
         ensures fault { IfErr result (λ fault. (fault.offset ≡ self.now.offset) × EndsWith self.now fault.kind) }
     {
         if self.taken < self.buffer.len() {
-            return Err(self.fault_here(FaultKind::CutRecord));
+            return Err(self.fault_at_front(FaultKind::CutRecord));
         }
         match self.layout {
-            Layout::Start => Err(self.fault_here(FaultKind::NoCapture)),
+            Layout::Start => Err(self.fault_at_front(FaultKind::NoCapture)),
             _ => Ok(()),
         }
     }

@@ -6,10 +6,10 @@ ghost use Rattle.dm_capture.specs.Sections.{section_order, IsSectionHeader, HasS
 ghost use Rattle.dm_capture.specs.Contents.{BlockHolds, HasContentFault, IsBlockItem, HasBlockFault};
 ghost use Rattle.dm_capture.specs.Contents.{IsSectionItem, IsSectionItemPart, HasSectionItemFault};
 
-use crate::block::whole_block;
+use crate::block::whole_block_size;
 use crate::fault::FaultKind;
 use crate::front::{Found, Holds};
-use crate::interface::{Interface, interface_of};
+use crate::interface::{Interface, read_interface};
 use crate::order::{Order, u16_at, u32_at};
 use crate::packet_block::{simple_packet, timed_packet};
 
@@ -39,7 +39,7 @@ pub(crate) fn is_section(octets: &[u8]) -> bool
 }
 
 /// The order of a section's octets.
-fn order_at(octets: &[u8]) -> Option<Order>
+fn order_of_section(octets: &[u8]) -> Option<Order>
     requires { 12 ≤ length octets.now }
     ensures { result ≡ section_order octets.now }
 {
@@ -64,14 +64,14 @@ pub(crate) fn section_at(octets: &[u8]) -> Result<Option<Found>, FaultKind>
     if octets.len() < 12 {
         return Ok(None);
     }
-    match order_at(octets) {
-        Some(order) => ordered_section(order, octets),
+    match order_of_section(octets) {
+        Some(order) => section_in_order(order, octets),
         None => Err(FaultKind::NoCapture),
     }
 }
 
 /// The section's header at the front, whose order is known.
-fn ordered_section(order: Order, octets: &[u8]) -> Result<Option<Found>, FaultKind>
+fn section_in_order(order: Order, octets: &[u8]) -> Result<Option<Found>, FaultKind>
     requires least { 12 ≤ length octets.now }
     requires section { ordered_number Order.Big 4 octets.now ≡ section_type }
     requires ordered { section_order octets.now ≡ Some order }
@@ -80,7 +80,7 @@ fn ordered_section(order: Order, octets: &[u8]) -> Result<Option<Found>, FaultKi
     ensures part { IfOk result (λ found. IfNone found (IsSectionPart octets.now)) }
     ensures fault { IfErr result (HasSectionFault octets.now) }
 {
-    match whole_block(order, octets) {
+    match whole_block_size(order, octets) {
         Ok(Some(size)) => {
             if size < SECTION_LEN {
                 return Err(FaultKind::WrongLength);
@@ -116,11 +116,11 @@ pub(crate) fn block_at(
     if is_section(octets) {
         return section_at(octets);
     }
-    other_block(order, interfaces, octets)
+    block_within_section(order, interfaces, octets)
 }
 
 /// The block at the front of what is left in a section, which is no section's header.
-fn other_block(
+fn block_within_section(
     order: Order,
     interfaces: &[Interface],
     octets: &[u8],
@@ -133,8 +133,8 @@ fn other_block(
     ensures part { IfOk result (λ found. IfNone found (IsBlockPart order octets.now)) }
     ensures fault { IfErr result (HasBlockFault order interfaces.now octets.now) }
 {
-    match whole_block(order, octets) {
-        Ok(Some(size)) => match block_holds(order, interfaces, &octets[..size]) {
+    match whole_block_size(order, octets) {
+        Ok(Some(size)) => match read_block(order, interfaces, &octets[..size]) {
             Ok(holds) => Ok(Some(Found { size, holds })),
             Err(fault) => Err(fault),
         },
@@ -144,13 +144,13 @@ fn other_block(
 }
 
 /// What a whole block says.
-fn block_holds(order: Order, interfaces: &[Interface], block: &[u8]) -> Result<Holds, FaultKind>
+fn read_block(order: Order, interfaces: &[Interface], block: &[u8]) -> Result<Holds, FaultKind>
     requires { 12 ≤ length block.now }
     ensures holds { IfOk result (BlockHolds order interfaces.now block.now) }
     ensures fault { IfErr result (HasContentFault order interfaces.now block.now) }
 {
     match u32_at(order, block, 0) {
-        INTERFACE => match interface_of(order, interfaces, block) {
+        INTERFACE => match read_interface(order, interfaces, block) {
             Ok(interface) => Ok(Holds::Description(interface)),
             Err(fault) => Err(fault),
         },

@@ -53,14 +53,14 @@ fn read_packet<R: BufRead>(
             Err(fault) => return Err(StreamFault::Capture(fault)),
         }
         if feed_piece(reader, capture)? {
-            return end_of(capture);
+            return answer_at_end(capture);
         }
     }
     Err(StreamFault::Unreadable)
 }
 
 /// What is answered where the file ends.
-fn end_of(capture: &CaptureReader) -> Result<Option<Packet>, StreamFault>
+fn answer_at_end(capture: &CaptureReader) -> Result<Option<Packet>, StreamFault>
     ensures { EndsAs capture.now result }
 {
     match capture.end() {
@@ -78,24 +78,24 @@ fn feed_piece<R: BufRead>(reader: &mut R, capture: &mut CaptureReader) -> Result
 {
     let octets = match reader.fill_buf() {
         Ok(octets) => octets,
-        Err(error) => return nothing_read(capture, error),
+        Err(error) => return answer_read_error(capture, error),
     };
     let size = octets.len();
     if capture.feed(octets).is_err() {
-        return Err(StreamFault::Capture(capture.fault_here(FaultKind::OutOfMemory)));
+        return Err(StreamFault::Capture(capture.fault_at_front(FaultKind::OutOfMemory)));
     }
     reader.consume(size);
     Ok(size == 0)
 }
 
-/// An interrupted read is made again.
-fn nothing_read(capture: &CaptureReader, error: Error) -> Result<bool, StreamFault>
+/// What is answered where a read fails: false where it was interrupted, so that it is made again.
+fn answer_read_error(capture: &CaptureReader, error: Error) -> Result<bool, StreamFault>
     ensures again { IfOk result (λ done. done ≡ false) }
     ensures none { IfErr result (IsNoneRead capture.now) }
 {
     match error.kind() {
         ErrorKind::Interrupted => Ok(false),
-        ErrorKind::OutOfMemory => Err(StreamFault::Capture(capture.fault_here(
+        ErrorKind::OutOfMemory => Err(StreamFault::Capture(capture.fault_at_front(
             FaultKind::OutOfMemory,
         ))),
         _ => Err(StreamFault::Unreadable),

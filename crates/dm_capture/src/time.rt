@@ -23,7 +23,7 @@ pub struct Time {
 }
 
 /// The resolution that an octet of `if_tsresol` stands for.
-pub(crate) fn resolution_at(octet: u8) -> Resolution
+pub(crate) fn resolution_from_octet(octet: u8) -> Resolution
     ensures { result ≡ resolution_of octet }
 {
     if octet < 128 {
@@ -44,7 +44,7 @@ fn units_in_second(resolution: Resolution) -> Option<u64>
 }
 
 /// The whole seconds of so many units, and the units on top of them.
-fn seconds_of(resolution: Resolution, units: u64) -> (u64, u64)
+fn seconds_and_units(resolution: Resolution, units: u64) -> (u64, u64)
     ensures { result ≡ (units / units_per_second resolution, units % units_per_second resolution) }
 {
     match units_in_second(resolution) {
@@ -57,7 +57,7 @@ fn seconds_of(resolution: Resolution, units: u64) -> (u64, u64)
 pub(crate) fn time_from(resolution: Resolution, offset: u64, units: u64) -> Time
     ensures { result ≡ time_of resolution offset units }
 {
-    let (seconds, fraction) = seconds_of(resolution, units);
+    let (seconds, fraction) = seconds_and_units(resolution, units);
     Time {
         seconds: offset.wrapping_add(seconds).cast_signed(),
         fraction,

@@ -29,9 +29,9 @@ returns-then-branch g c =
     let said = rw c.in-Ok-None.field-0-is at c.in-Ok-None.ensures.hands in
     let further = ongoing_passed _ c.piece.capture c.next.new.self _ _ c.piece.invariant
     (said c.piece.invariant.fault) in
-    ended _ c.next.new.self c.feed_piece.new.capture _ _ _ c.end_of.result further
+    ended _ c.next.new.self c.feed_piece.new.capture _ _ _ c.answer_at_end.result further
     ((said c.piece.invariant.fault).3)
-    (subst (FeedsPiece _ _ _ _) c.if-branch.true c.in_ok-feed_piece.ensures.fed) c.end_of.ensures
+    (subst (FeedsPiece _ _ _ _) c.if-branch.true c.in_ok-feed_piece.ensures.fed) c.answer_at_end.ensures
 
 pub piece-preserved : goal.piece-preserved
 piece-preserved g c =

@@ -1,7 +1,7 @@
 -- The section's header is read at the front.
 use Rattle.std.proofs.Common.{sym, ◌∙◌}
 use Rattle.dm_capture.proofs.Taken.{section_taken, version_fault}
-use Rattle.dm_capture.proofs.section.ordered_section.Goals as goal
+use Rattle.dm_capture.proofs.section.section_in_order.Goals as goal
 
 pub returns-then-u16_at-ne1-clause-fault : goal.returns-then-u16_at-ne1-clause-fault
 returns-then-u16_at-ne1-clause-fault c =

@@ -1,7 +1,7 @@
 -- The header is read at the front.
 use Rattle.std.proofs.Common.{◌%◌, sym, ◌∙◌, ap, arith}
 use Rattle.dm_capture.proofs.Taken.{form_taken}
-use Rattle.dm_capture.proofs.pcap.header_at.Goals as goal
+use Rattle.dm_capture.proofs.pcap.pcap_header_at.Goals as goal
 
 pub returns-clause-item : goal.returns-clause-item
 returns-clause-item c =
