@@ -16,7 +16,7 @@ pub(crate) struct Carried<'a> {
 }
 
 /// So many octets, or as many as there are.
-pub(crate) fn front_of(octets: &[u8], size: usize) -> &[u8]
+pub(crate) fn first_octets(octets: &[u8], size: usize) -> &[u8]
     ensures { result.now ≡ take size octets.now }
 {
     if octets.len() < size {

@@ -6,7 +6,7 @@ ghost use Rattle.dm_flows.specs.Flows.{HandsMessage, HandsNoMessage};
 ghost use Rattle.dm_flows.specs.Tcps.{segment_seen};
 
 use crate::address::{Address, Endpoint};
-use crate::control::hear;
+use crate::control::take_segment;
 use crate::flow::Flow;
 use crate::segment::Segment;
 use std::alloc::{AllocError, Global};
@@ -93,9 +93,9 @@ impl Connection {
         ensures left { OnErr result (LeavesConnection self.old (segment_seen segment.entry) self.new) }
     {
         if is_same_end(segment.source, self.first) {
-            hear(&mut self.forth, &mut self.back, segment)
+            take_segment(&mut self.forth, &mut self.back, segment)
         } else {
-            hear(&mut self.back, &mut self.forth, segment)
+            take_segment(&mut self.back, &mut self.forth, segment)
         }
     }
 

@@ -30,28 +30,28 @@ fn repeats_syn(own: &Flow, number: u32) -> bool
 }
 
 /// Whether a SYN of this direction answers one of the other.
-fn is_answer(own: &Flow, other: &Flow) -> bool
+fn answers_syn(own: &Flow, other: &Flow) -> bool
     ensures { result ≡ is_answering_syn (record { own = own.now; other = other.now }) }
 {
     is_open(own.closing()) && own.syn().is_none() && other.syn().is_some()
 }
 
 /// A SYN came.
-fn begin(own: &mut Flow, other: &mut Flow, number: u32)
+fn take_syn(own: &mut Flow, other: &mut Flow, number: u32)
     ensures { record { own = own.new; other = other.new }
         ≡ after_syn number (record { own = own.old; other = other.old }) }
 {
     if repeats_syn(own, number) {
         return;
     }
-    if !is_answer(own, other) {
+    if !answers_syn(own, other) {
         other.begin_unseen();
     }
     own.begin(number);
 }
 
 /// The number of the first octet.
-fn number_of_first(segment: Segment<'_>) -> u32
+fn first_octet_number(segment: Segment<'_>) -> u32
     ensures { result ≡ first_number (segment_seen segment.entry) }
 {
     if segment.syn {
@@ -62,7 +62,7 @@ fn number_of_first(segment: Segment<'_>) -> u32
 }
 
 /// What the control bits do, before the octets are taken.
-fn control(own: &mut Flow, other: &mut Flow, segment: Segment<'_>)
+fn apply_control_bits(own: &mut Flow, other: &mut Flow, segment: Segment<'_>)
     ensures { record { own = own.new; other = other.new }
         ≡ controlled (segment_seen segment.entry) (record { own = own.old; other = other.old }) }
 {
@@ -72,21 +72,25 @@ fn control(own: &mut Flow, other: &mut Flow, segment: Segment<'_>)
         return;
     }
     if segment.syn {
-        begin(own, other, segment.sequence);
+        take_syn(own, other, segment.sequence);
     }
     if segment.fin {
-        let last = number_behind(number_of_first(segment), segment.payload.len());
+        let last = number_behind(first_octet_number(segment), segment.payload.len());
         own.finish(last);
     }
 }
 
 /// Takes a segment.
-pub(crate) fn hear(own: &mut Flow, other: &mut Flow, segment: Segment<'_>) -> Result<(), AllocError>
+pub(crate) fn take_segment(
+    own: &mut Flow,
+    other: &mut Flow,
+    segment: Segment<'_>,
+) -> Result<(), AllocError>
     ensures heard { OnOk result (HearsSegment (record { own = own.old; other = other.old })
         (segment_seen segment.entry) (record { own = own.new; other = other.new })) }
     ensures left { OnErr result (LeavesSegment (record { own = own.old; other = other.old })
         (segment_seen segment.entry) (record { own = own.new; other = other.new })) }
 {
-    control(own, other, segment);
-    own.take(number_of_first(segment), segment.payload)
+    apply_control_bits(own, other, segment);
+    own.take(first_octet_number(segment), segment.payload)
 }

@@ -8,7 +8,7 @@ ghost use Rattle.dm_flows.specs.Flows.{BeginsAnew, TakesWithin, TakesPayload, Le
 ghost use Rattle.dm_flows.specs.Flows.{HandsMessage, HandsNoMessage};
 ghost use Rattle.dm_flows.specs.Windows.{place_ahead, sequence_behind};
 
-use crate::carried::front_of;
+use crate::carried::first_octets;
 use crate::closing::Closing;
 use crate::header::begins_with_header;
 use crate::window::{Window, WindowFault};
@@ -59,14 +59,14 @@ impl Model for Flow {
 }
 
 /// So many octets more.
-fn more_octets(passed: u64, octets: usize) -> u64
+fn octet_sum(passed: u64, octets: usize) -> u64
     ensures { result ≡ more_passed passed octets }
 {
     passed.saturating_add(octets as u64)
 }
 
 /// How many octets there are from a sequence number up to the end.
-fn room_before(last: u32, number: u32) -> usize
+fn count_before_end(last: u32, number: u32) -> usize
     ensures { result ≡ place_ahead number last }
 {
     let room = last.wrapping_sub(number);
@@ -74,13 +74,13 @@ fn room_before(last: u32, number: u32) -> usize
 }
 
 /// The octets, of which the first has this number, that are before the end.
-fn within(closing: Closing, number: u32, octets: &[u8]) -> &[u8]
+fn octets_before_end(closing: Closing, number: u32, octets: &[u8]) -> &[u8]
     ensures within { result.now ≡ octets_within closing number octets.now }
     ensures most { length result.now ≤ length octets.now }
 {
     match closing {
         Closing::Open => octets,
-        Closing::Fin(last) => front_of(octets, room_before(last, number)),
+        Closing::Fin(last) => first_octets(octets, count_before_end(last, number)),
         Closing::Reset => &octets[..0],
     }
 }
@@ -114,7 +114,7 @@ fn span_in(window: &Option<Window>) -> usize
 }
 
 /// Hands octets in order to the framer.
-fn settle(framer: &mut Framer, fresh: &mut Vec<u8>) -> Result<(), AllocError>
+fn feed_framer(framer: &mut Framer, fresh: &mut Vec<u8>) -> Result<(), AllocError>
     requires { framer.old.fault ≡ None }
     ensures fed { OnOk result (framer.new
         ≡ record framer.old { octets = framer.old.octets ++ fresh.old.items }) }
@@ -170,8 +170,8 @@ impl Flow {
     pub fn pending(&self) -> u64
         ensures { result ≡ pending_octets self.now }
     {
-        let pending = more_octets(waiting_in(&self.window) as u64, self.framer.len());
-        more_octets(pending, self.fresh.len())
+        let pending = octet_sum(waiting_in(&self.window) as u64, self.framer.len());
+        octet_sum(pending, self.fresh.len())
     }
 
     /// The number of the SYN with which the connection began, where it was seen. It never answers want of memory.
@@ -189,12 +189,12 @@ impl Flow {
     }
 
     /// Leaves the stream.
-    fn leave(&mut self)
+    fn leave_stream(&mut self)
         ensures { self.new ≡ stream_left self.old }
     {
-        let passed = more_octets(self.passed, waiting_in(&self.window));
-        let passed = more_octets(passed, self.framer.len());
-        self.passed = more_octets(passed, self.fresh.len());
+        let passed = octet_sum(self.passed, waiting_in(&self.window));
+        let passed = octet_sum(passed, self.framer.len());
+        self.passed = octet_sum(passed, self.fresh.len());
         self.window = None;
         self.framer = Framer::new(self.alloc, self.framer.max());
         self.fresh = Vec::new(self.alloc);
@@ -206,7 +206,7 @@ impl Flow {
     pub fn begin(&mut self, number: u32)
         ensures { self.new ≡ begun_by_syn self.old number }
     {
-        self.leave();
+        self.leave_stream();
         self.syn = Some(number);
         self.closing = Closing::Open;
         self.window = Some(Window::new(self.alloc, number.wrapping_add(1)));
@@ -218,7 +218,7 @@ impl Flow {
     pub fn begin_unseen(&mut self)
         ensures { self.new ≡ begun_unseen self.old }
     {
-        self.leave();
+        self.leave_stream();
         self.syn = None;
         self.closing = Closing::Open;
     }
@@ -250,26 +250,26 @@ impl Flow {
         ensures taken { OnOk result (TakesPayload self.old number octets.now self.new) }
         ensures left { OnErr result (LeavesPayload self.old number octets.now self.new) }
     {
-        let inside = within(self.closing, number, octets);
-        self.take_within(number, inside)?;
-        self.passed = more_octets(self.passed, octets.len() - inside.len());
+        let inside = octets_before_end(self.closing, number, octets);
+        self.take_before_end(number, inside)?;
+        self.passed = octet_sum(self.passed, octets.len() - inside.len());
         Ok(())
     }
 
     /// Takes octets that are before the end.
-    fn take_within(&mut self, number: u32, octets: &[u8]) -> Result<(), AllocError>
+    fn take_before_end(&mut self, number: u32, octets: &[u8]) -> Result<(), AllocError>
         ensures taken { OnOk result (TakesWithin self.old number octets.now self.new) }
         ensures left { OnErr result ((self.new ≡ self.old) ⊎ FlowTakes self.old number octets.now self.new) }
     {
-        match self.go_on(number, octets) {
+        match self.continue_stream(number, octets) {
             Ok(true) => Ok(()),
-            Ok(false) => self.begin_anew(number, octets),
+            Ok(false) => self.begin_stream_or_pass(number, octets),
             Err(error) => Err(error),
         }
     }
 
     /// Takes octets where the place in the stream is known and they aren't too far away; else it answers false.
-    fn go_on(&mut self, number: u32, octets: &[u8]) -> Result<bool, AllocError>
+    fn continue_stream(&mut self, number: u32, octets: &[u8]) -> Result<bool, AllocError>
         ensures on { result ≡ Ok true → (IsAstrayAt self.old.window number octets.now → ⊥)
             × FlowTakes self.old number octets.now self.new }
         ensures astray { result ≡ Ok false → IsAstrayAt self.old.window number octets.now × (self.new ≡ self.old) }
@@ -289,25 +289,25 @@ impl Flow {
     }
 
     /// Leaves the stream, and begins one with the octets where a header may stand in front; else they are passed over.
-    fn begin_anew(&mut self, number: u32, octets: &[u8]) -> Result<(), AllocError>
+    fn begin_stream_or_pass(&mut self, number: u32, octets: &[u8]) -> Result<(), AllocError>
         ensures begun { OnOk result (BeginsAnew self.old number octets.now self.new) }
         ensures unchanged { OnErr result (self.new ≡ self.old) }
     {
         if !begins_with_header(octets) {
-            self.leave();
-            self.passed = more_octets(self.passed, octets.len());
+            self.leave_stream();
+            self.passed = octet_sum(self.passed, octets.len());
             return Ok(());
         }
         let front = Vec::from_slice(self.alloc, octets)?;
-        self.begin_with(number, front);
+        self.begin_stream(number, front);
         Ok(())
     }
 
     /// Leaves the stream, and begins one with these octets.
-    fn begin_with(&mut self, number: u32, front: Vec<u8>)
+    fn begin_stream(&mut self, number: u32, front: Vec<u8>)
         ensures { self.new ≡ begun_by_header self.old number front.items }
     {
-        self.leave();
+        self.leave_stream();
         self.window = Some(Window::new(self.alloc, number_behind(number, front.len())));
         self.fresh = front;
     }
@@ -322,7 +322,7 @@ impl Flow {
         ensures none { IfOk result (λ found. IfNone found (HandsNoMessage self.old self.new)) }
         ensures unchanged { OnErr result (self.new ≡ self.old) }
     {
-        settle(&mut self.framer, &mut self.fresh)?;
+        feed_framer(&mut self.framer, &mut self.fresh)?;
         match self.framer.front() {
             Ok(Some(message)) => {
                 let message = Vec::from_slice(self.alloc, message)?;
@@ -331,7 +331,7 @@ impl Flow {
             }
             Ok(None) => Ok(None),
             Err(_) => {
-                self.leave();
+                self.leave_stream();
                 Ok(None)
             }
         }

@@ -3,7 +3,7 @@ ghost use Rattle.std.specs.Prelude.{◌≡◌, ◌≤◌, length, IfOk, IfErr};
 ghost use Rattle.dm_flows.specs.Ips.{IsIpv4, HasIpv4Fault, ipv4_header, ipv4_total, ipv4_carried, carried_of};
 
 use crate::address::Address;
-use crate::carried::{Carried, front_of};
+use crate::carried::{Carried, first_octets};
 use crate::passed::Passed;
 use byteorder::{BigEndian, ByteOrder};
 
@@ -14,7 +14,7 @@ const LEAST_LEN: usize = 20;
 const FRAGMENT: u16 = 16_384;
 
 /// The octets of the header, which counts 32-bit words.
-fn header_len(octets: &[u8]) -> usize
+fn ipv4_header_len(octets: &[u8]) -> usize
     requires { 1 ≤ length octets.now }
     ensures { result ≡ ipv4_header octets.now }
 {
@@ -39,7 +39,7 @@ pub(crate) fn carried_by_ipv4(octets: &[u8]) -> Result<Carried<'_>, Passed>
     if octets.len() < LEAST_LEN {
         return Err(Passed::Cut);
     }
-    let header = header_len(octets);
+    let header = ipv4_header_len(octets);
     let total = BigEndian::read_u16(&octets[2..]) as usize;
     if octets[0] / 16 != 4 || header < LEAST_LEN || total < header {
         return Err(Passed::Bad);
@@ -50,11 +50,11 @@ pub(crate) fn carried_by_ipv4(octets: &[u8]) -> Result<Carried<'_>, Passed>
     if BigEndian::read_u16(&octets[6..]) % FRAGMENT != 0 {
         return Err(Passed::Fragment);
     }
-    Ok(whole_ipv4(octets, header, total))
+    Ok(carried_with_lengths(octets, header, total))
 }
 
 /// What a packet with these lengths carries.
-fn whole_ipv4(octets: &[u8], header: usize, total: usize) -> Carried<'_>
+fn carried_with_lengths(octets: &[u8], header: usize, total: usize) -> Carried<'_>
     requires least { 20 ≤ length octets.now }
     requires header { header ≤ length octets.now }
     requires total { header ≤ total }
@@ -66,7 +66,7 @@ fn whole_ipv4(octets: &[u8], header: usize, total: usize) -> Carried<'_>
         source: Address::V4(BigEndian::read_u32(&octets[12..])),
         destination: Address::V4(BigEndian::read_u32(&octets[16..])),
         protocol: octets[9],
-        payload: front_of(&octets[header..], total - header),
+        payload: first_octets(&octets[header..], total - header),
         whole: total <= octets.len(),
     }
 }

@@ -4,7 +4,7 @@ ghost use Rattle.dm_flows.specs.Ips.{IsIpv6, HasIpv6Fault, carried_of, ipv6_size
 ghost use Rattle.dm_flows.specs.Ips.{ipv6_carried};
 
 use crate::address::Address;
-use crate::carried::{Carried, front_of};
+use crate::carried::{Carried, first_octets};
 use crate::extensions::{Astray, Upper, pass_extensions};
 use crate::passed::Passed;
 use byteorder::{BigEndian, ByteOrder};
@@ -32,8 +32,8 @@ pub(crate) fn carried_by_ipv6(octets: &[u8]) -> Result<Carried<'_>, Passed>
     if octets[0] / 16 != 6 {
         return Err(Passed::Bad);
     }
-    match pass_extensions(octets[6], captured_rest(octets)) {
-        Ok(upper) => Ok(upper_carried(octets, upper)),
+    match pass_extensions(octets[6], captured_payload(octets)) {
+        Ok(upper) => Ok(carried_from_upper(octets, upper)),
         Err(Astray::Fragmented) => Err(Passed::Fragment),
         Err(Astray::Ends) => Err(cut_or_bad(octets)),
     }
@@ -47,28 +47,28 @@ fn payload_len(octets: &[u8]) -> usize
     BigEndian::read_u16(&octets[4..]) as usize
 }
 
-/// What was captured of them.
-fn captured_rest(octets: &[u8]) -> &[u8]
+/// What was captured of the octets behind the header.
+fn captured_payload(octets: &[u8]) -> &[u8]
     requires { 40 ≤ length octets.now }
     ensures { result.now ≡ ipv6_rest octets.now }
 {
-    front_of(&octets[HEADER_LEN..], payload_len(octets))
+    first_octets(&octets[HEADER_LEN..], payload_len(octets))
 }
 
-/// Whether that is all.
-fn is_whole(octets: &[u8]) -> bool
+/// Whether all octets behind the header were captured.
+fn is_payload_whole(octets: &[u8]) -> bool
     requires { 40 ≤ length octets.now }
     ensures { result ≡ ipv6_whole octets.now }
 {
     payload_len(octets) <= octets.len() - HEADER_LEN
 }
 
-/// What extension headers that end in the middle of one say of the packet.
+/// Why extension headers end in the middle of one: the packet is bad where all of it was captured, else it is cut.
 fn cut_or_bad(octets: &[u8]) -> Passed
     requires { 40 ≤ length octets.now }
     ensures { result ≡ (if ipv6_whole octets.now then Passed.Bad else Passed.Cut) }
 {
-    if is_whole(octets) {
+    if is_payload_whole(octets) {
         Passed::Bad
     } else {
         Passed::Cut
@@ -76,7 +76,7 @@ fn cut_or_bad(octets: &[u8]) -> Passed
 }
 
 /// What a packet carries whose extension headers lead to this protocol.
-fn upper_carried<'a>(octets: &[u8], upper: Upper<'a>) -> Carried<'a>
+fn carried_from_upper<'a>(octets: &[u8], upper: Upper<'a>) -> Carried<'a>
     requires { 40 ≤ length octets.now }
     ensures { carried_of result ≡ ipv6_carried octets.now upper.entry.protocol upper.entry.payload.now }
 {
@@ -85,6 +85,6 @@ fn upper_carried<'a>(octets: &[u8], upper: Upper<'a>) -> Carried<'a>
         destination: Address::V6(BigEndian::read_u128(&octets[24..])),
         protocol: upper.protocol,
         payload: upper.payload,
-        whole: is_whole(octets),
+        whole: is_payload_whole(octets),
     }
 }

@@ -4,7 +4,8 @@ ghost use Rattle.dm_flows.specs.Links.{link_kind, HoldsIp, HasLinkFault, IsTyped
 ghost use Rattle.dm_flows.specs.Links.{IsBehind, IsNoneBehind};
 
 use crate::network::{
-    IpOctets, Network, by_ethertype, by_host_family, by_network_family, by_version,
+    IpOctets, Network, network_by_big_endian_family, network_by_ethertype, network_by_host_family,
+    network_by_version,
 };
 use crate::passed::Passed;
 use crate::tags::pass_tags;
@@ -30,7 +31,7 @@ pub(crate) enum LinkKind {
 }
 
 /// The type of link with a number of the registry.
-fn kind_of(link: u16) -> LinkKind
+fn kind_of_link(link: u16) -> LinkKind
     ensures { result ≡ link_kind link }
 {
     match link {
@@ -47,7 +48,7 @@ fn kind_of(link: u16) -> LinkKind
 }
 
 /// The IP packet behind so many octets and an EtherType.
-fn typed(front: usize, octets: &[u8]) -> Result<IpOctets<'_>, Passed>
+fn ip_behind_ethertype(front: usize, octets: &[u8]) -> Result<IpOctets<'_>, Passed>
     ensures found { IfOk result (λ ip. IsTyped front octets.now ip.network ip.octets.now) }
     ensures none { IfErr result (IsNoneTyped front octets.now) }
 {
@@ -57,7 +58,7 @@ fn typed(front: usize, octets: &[u8]) -> Result<IpOctets<'_>, Passed>
     let Some(found) = pass_tags(&octets[front..]) else {
         return Err(Passed::Cut);
     };
-    match by_ethertype(found.kind) {
+    match network_by_ethertype(found.kind) {
         Some(network) => Ok(IpOctets {
             network,
             octets: found.octets,
@@ -67,7 +68,11 @@ fn typed(front: usize, octets: &[u8]) -> Result<IpOctets<'_>, Passed>
 }
 
 /// The IP packet behind a header of so many octets, which names its version or doesn't.
-fn named(size: usize, network: Option<Network>, octets: &[u8]) -> Result<IpOctets<'_>, Passed>
+fn ip_behind_header(
+    size: usize,
+    network: Option<Network>,
+    octets: &[u8],
+) -> Result<IpOctets<'_>, Passed>
     requires { size ≤ length octets.now }
     ensures found { IfOk result (λ ip. IsBehind size network octets.now ip.network ip.octets.now) }
     ensures none { IfErr result (IsNoneBehind size network octets.now) }
@@ -82,47 +87,51 @@ fn named(size: usize, network: Option<Network>, octets: &[u8]) -> Result<IpOctet
 }
 
 /// The IP packet behind a Linux cooked header of version 2.
-fn cooked_second(octets: &[u8]) -> Result<IpOctets<'_>, Passed>
+fn ip_of_cooked_second(octets: &[u8]) -> Result<IpOctets<'_>, Passed>
     ensures found { IfOk result (λ ip. HoldsIp LinkKind.CookedSecond octets.now ip.network ip.octets.now) }
     ensures none { IfErr result (HasLinkFault LinkKind.CookedSecond octets.now) }
 {
     if octets.len() < 20 {
         return Err(Passed::Cut);
     }
-    named(20, by_ethertype(BigEndian::read_u16(octets)), octets)
+    ip_behind_header(
+        20,
+        network_by_ethertype(BigEndian::read_u16(octets)),
+        octets,
+    )
 }
 
 /// The IP packet behind the family of addresses, in either order of octets.
-fn host_loopback(octets: &[u8]) -> Result<IpOctets<'_>, Passed>
+fn ip_of_host_loopback(octets: &[u8]) -> Result<IpOctets<'_>, Passed>
     ensures found { IfOk result (λ ip. HoldsIp LinkKind.HostLoopback octets.now ip.network ip.octets.now) }
     ensures none { IfErr result (HasLinkFault LinkKind.HostLoopback octets.now) }
 {
     if octets.len() < 4 {
         return Err(Passed::Cut);
     }
-    named(4, by_host_family(octets), octets)
+    ip_behind_header(4, network_by_host_family(octets), octets)
 }
 
 /// The IP packet behind the family of addresses, in network byte order.
-fn loopback(octets: &[u8]) -> Result<IpOctets<'_>, Passed>
+fn ip_of_loopback(octets: &[u8]) -> Result<IpOctets<'_>, Passed>
     ensures found { IfOk result (λ ip. HoldsIp LinkKind.Loopback octets.now ip.network ip.octets.now) }
     ensures none { IfErr result (HasLinkFault LinkKind.Loopback octets.now) }
 {
     if octets.len() < 4 {
         return Err(Passed::Cut);
     }
-    named(4, by_network_family(octets), octets)
+    ip_behind_header(4, network_by_big_endian_family(octets), octets)
 }
 
 /// The IP packet itself.
-fn raw_ip(octets: &[u8]) -> Result<IpOctets<'_>, Passed>
+fn ip_of_raw_link(octets: &[u8]) -> Result<IpOctets<'_>, Passed>
     ensures found { IfOk result (λ ip. HoldsIp LinkKind.RawIp octets.now ip.network ip.octets.now) }
     ensures none { IfErr result (HasLinkFault LinkKind.RawIp octets.now) }
 {
     if octets.is_empty() {
         return Err(Passed::Cut);
     }
-    match by_version(octets[0]) {
+    match network_by_version(octets[0]) {
         Some(network) => Ok(IpOctets { network, octets }),
         None => Err(Passed::NotIp),
     }
@@ -133,13 +142,13 @@ pub(crate) fn ip_of_link(link: u16, octets: &[u8]) -> Result<IpOctets<'_>, Passe
     ensures found { IfOk result (λ ip. HoldsIp (link_kind link) octets.now ip.network ip.octets.now) }
     ensures none { IfErr result (HasLinkFault (link_kind link) octets.now) }
 {
-    match kind_of(link) {
-        LinkKind::Ethernet => typed(12, octets),
-        LinkKind::Cooked => typed(14, octets),
-        LinkKind::CookedSecond => cooked_second(octets),
-        LinkKind::HostLoopback => host_loopback(octets),
-        LinkKind::Loopback => loopback(octets),
-        LinkKind::RawIp => raw_ip(octets),
+    match kind_of_link(link) {
+        LinkKind::Ethernet => ip_behind_ethertype(12, octets),
+        LinkKind::Cooked => ip_behind_ethertype(14, octets),
+        LinkKind::CookedSecond => ip_of_cooked_second(octets),
+        LinkKind::HostLoopback => ip_of_host_loopback(octets),
+        LinkKind::Loopback => ip_of_loopback(octets),
+        LinkKind::RawIp => ip_of_raw_link(octets),
         LinkKind::RawIpv4 => Ok(IpOctets {
             network: Network::Ipv4,
             octets,

@@ -20,7 +20,7 @@ pub(crate) struct IpOctets<'a> {
 }
 
 /// The version that an EtherType names.
-pub(crate) fn by_ethertype(kind: u16) -> Option<Network>
+pub(crate) fn network_by_ethertype(kind: u16) -> Option<Network>
     ensures { result ≡ network_of kind }
 {
     match kind {
@@ -31,7 +31,7 @@ pub(crate) fn by_ethertype(kind: u16) -> Option<Network>
 }
 
 /// The version that a family of addresses names, as BSD counts these.
-fn by_family(family: u32) -> Option<Network>
+fn network_by_family(family: u32) -> Option<Network>
     ensures { result ≡ network_of_family family }
 {
     match family {
@@ -42,26 +42,26 @@ fn by_family(family: u32) -> Option<Network>
 }
 
 /// The version that the family in network byte order names.
-pub(crate) fn by_network_family(octets: &[u8]) -> Option<Network>
+pub(crate) fn network_by_big_endian_family(octets: &[u8]) -> Option<Network>
     requires { 4 ≤ length octets.now }
     ensures { result ≡ network_of_family (big_number 4 octets.now) }
 {
-    by_family(BigEndian::read_u32(octets))
+    network_by_family(BigEndian::read_u32(octets))
 }
 
 /// The version that the family in either order names.
-pub(crate) fn by_host_family(octets: &[u8]) -> Option<Network>
+pub(crate) fn network_by_host_family(octets: &[u8]) -> Option<Network>
     requires { 4 ≤ length octets.now }
     ensures { result ≡ host_network octets.now }
 {
-    match by_family(BigEndian::read_u32(octets)) {
+    match network_by_family(BigEndian::read_u32(octets)) {
         Some(network) => Some(network),
-        None => by_family(LittleEndian::read_u32(octets)),
+        None => network_by_family(LittleEndian::read_u32(octets)),
     }
 }
 
 /// The version with which a packet begins.
-pub(crate) fn by_version(octet: u8) -> Option<Network>
+pub(crate) fn network_by_version(octet: u8) -> Option<Network>
     ensures { result ≡ network_of_version (octet / 16) }
 {
     match octet / 16 {

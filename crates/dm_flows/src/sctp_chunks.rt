@@ -3,7 +3,7 @@ ghost use Rattle.std.specs.Prelude.{◌≡◌, ◌<◌, ◌≤◌, ℕ, length, 
 ghost use Rattle.dm_flows.specs.Sctps.{chunk_length, has_flag, behind_chunk, data_chunk, data_seen, IsData};
 ghost use Rattle.dm_flows.specs.Sctps.{IsWholeChunk, HasData, HasNoData};
 
-use crate::slots::behind;
+use crate::slots::without_first;
 use byteorder::{BigEndian, ByteOrder};
 use std::marker::Model;
 
@@ -44,7 +44,7 @@ struct FoundData<'a> {
 }
 
 /// Whether the flag of this worth is set.
-fn is_set(octets: &[u8], worth: u8) -> bool
+fn is_flag_set(octets: &[u8], worth: u8) -> bool
     requires there { 2 ≤ length octets.now }
     requires some { 0 < worth }
     ensures { result ≡ has_flag worth octets.now }
@@ -53,7 +53,7 @@ fn is_set(octets: &[u8], worth: u8) -> bool
 }
 
 /// The Chunk Length of the whole chunk at the front; `None` where none is there.
-fn whole_len(octets: &[u8]) -> Option<u16>
+fn whole_chunk_len(octets: &[u8]) -> Option<u16>
     ensures whole { IfSome result (λ size. IsWholeChunk octets.now × (size ≡ chunk_length octets.now)) }
     ensures none { IfNone result (IsWholeChunk octets.now → ⊥) }
 {
@@ -68,11 +68,11 @@ fn whole_len(octets: &[u8]) -> Option<u16>
 }
 
 /// The octets behind the chunk at the front and its padding.
-fn after_chunk(octets: &[u8], size: u16) -> &[u8]
+fn octets_after_chunk(octets: &[u8], size: u16) -> &[u8]
     requires { size ≡ chunk_length octets.now }
     ensures { result.now ≡ behind_chunk octets.now }
 {
-    behind(octets, 4 * ((size as usize + 3) / 4))
+    without_first(octets, 4 * ((size as usize + 3) / 4))
 }
 
 /// The DATA chunk at the front.
@@ -85,15 +85,15 @@ fn after_chunk(octets: &[u8], size: u16) -> &[u8]
 /// |       Stream Identifier       |    Stream Sequence Number     |
 /// |                  Payload Protocol Identifier                  |
 /// ```
-fn data_at(octets: &[u8], size: u16) -> DataChunk<'_>
+fn read_data_chunk(octets: &[u8], size: u16) -> DataChunk<'_>
     requires is { IsData octets.now }
     requires len { size ≡ chunk_length octets.now }
     ensures { data_seen result ≡ data_chunk octets.now }
 {
     DataChunk {
-        unordered: is_set(octets, 4),
-        beginning: is_set(octets, 2),
-        ending: is_set(octets, 1),
+        unordered: is_flag_set(octets, 4),
+        beginning: is_flag_set(octets, 2),
+        ending: is_flag_set(octets, 1),
         tsn: BigEndian::read_u32(&octets[4..]),
         stream: BigEndian::read_u16(&octets[8..]),
         sequence: BigEndian::read_u16(&octets[10..]),
@@ -109,11 +109,11 @@ fn next_data(octets: &[u8]) -> Option<FoundData<'_>>
     ensures none { IfNone result (HasNoData octets.now) }
 {
     let mut rest = octets;
-    'chunks: while let Some(size) = whole_len(rest) {
-        let behind = after_chunk(rest, size);
+    'chunks: while let Some(size) = whole_chunk_len(rest) {
+        let behind = octets_after_chunk(rest, size);
         if rest[0] == DATA && DATA_LEN < size {
             return Some(FoundData {
-                chunk: data_at(rest, size),
+                chunk: read_data_chunk(rest, size),
                 rest: behind,
             });
         }

@@ -34,7 +34,7 @@ pub struct Segment<'a> {
 }
 
 /// The octets of the header, which counts 32-bit words.
-fn header_len(octets: &[u8]) -> usize
+fn tcp_header_len(octets: &[u8]) -> usize
     requires { 13 ≤ length octets.now }
     ensures { result ≡ tcp_header octets.now }
 {
@@ -42,7 +42,7 @@ fn header_len(octets: &[u8]) -> usize
 }
 
 /// Whether the control bit of this worth is set.
-fn is_set(octets: &[u8], worth: u8) -> bool
+fn is_control_bit_set(octets: &[u8], worth: u8) -> bool
     requires there { 14 ≤ length octets.now }
     requires some { 0 < worth }
     ensures { result ≡ has_control worth octets.now }
@@ -75,7 +75,7 @@ fn carried_segment(carried: Carried<'_>) -> Result<Segment<'_>, Passed>
     if octets.len() < LEAST_LEN {
         return Err(Passed::Bad);
     }
-    let header = header_len(octets);
+    let header = tcp_header_len(octets);
     if header < LEAST_LEN || octets.len() < header {
         return Err(Passed::Bad);
     }
@@ -89,9 +89,9 @@ fn carried_segment(carried: Carried<'_>) -> Result<Segment<'_>, Passed>
             port: BigEndian::read_u16(&octets[2..]),
         },
         sequence: BigEndian::read_u32(&octets[4..]),
-        syn: is_set(octets, 2),
-        fin: is_set(octets, 1),
-        rst: is_set(octets, 4),
+        syn: is_control_bit_set(octets, 2),
+        fin: is_control_bit_set(octets, 1),
+        rst: is_control_bit_set(octets, 4),
         payload: &octets[header..],
     })
 }

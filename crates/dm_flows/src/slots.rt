@@ -6,7 +6,7 @@ use std::alloc::AllocError;
 use std::collections::VecDeque;
 
 /// All but so many octets at the front, or none.
-pub(crate) fn behind(octets: &[u8], passed: usize) -> &[u8]
+pub(crate) fn without_first(octets: &[u8], passed: usize) -> &[u8]
     ensures { result.now ≡ drop passed octets.now }
 {
     if octets.len() < passed {
@@ -17,7 +17,7 @@ pub(crate) fn behind(octets: &[u8], passed: usize) -> &[u8]
 }
 
 /// How many slots have an octet.
-pub(crate) fn count_slots(slots: &VecDeque<Option<u8>>) -> usize
+pub(crate) fn count_filled_slots(slots: &VecDeque<Option<u8>>) -> usize
     ensures known { result ≡ known_octets slots.now.items }
     ensures most { result ≤ length slots.now.items }
 {

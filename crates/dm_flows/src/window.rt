@@ -3,7 +3,7 @@ ghost use Rattle.std.specs.Prelude.{◌≡◌, ◌≤◌, ◌++◌, [], length, 
 ghost use Rattle.dm_flows.specs.Windows.{slot, known_octets, place_ahead, passed_of, lies_far_behind, arrival_from};
 ghost use Rattle.dm_flows.specs.Windows.{IsTooFar, TakesOctets, HandsTo, HandsStraight, TakesThrough, LeavesThrough};
 
-use crate::slots::{behind, count_slots, fill_slots, grow_slots};
+use crate::slots::{count_filled_slots, fill_slots, grow_slots, without_first};
 use std::alloc::{AllocError, Global};
 use std::collections::VecDeque;
 use std::marker::Model;
@@ -54,7 +54,7 @@ struct Place {
 }
 
 /// The place of octets whose first has this sequence number. Numbers are compared modulo 2^32.
-fn place_near(next: u32, sequence: u32) -> Place
+fn place_of_sequence(next: u32, sequence: u32) -> Place
     ensures at { result.at ≡ place_ahead next sequence }
     ensures passed { result.passed ≡ passed_of next sequence }
 {
@@ -93,8 +93,8 @@ impl Window {
         ensures far { IfErr result (λ fault. fault ≡ WindowFault.TooFar
             → IsTooFar (arrival_from self.old.next sequence octets.now)) }
     {
-        let place = place_near(self.next, sequence);
-        let fresh = behind(octets, place.passed);
+        let place = place_of_sequence(self.next, sequence);
+        let fresh = without_first(octets, place.passed);
         if fresh.is_empty() {
             return Ok(());
         }
@@ -113,7 +113,7 @@ impl Window {
     pub fn is_far_behind(&self, sequence: u32) -> bool
         ensures { result ≡ lies_far_behind self.now.next sequence }
     {
-        WINDOW < place_near(self.next, sequence).passed
+        WINDOW < place_of_sequence(self.next, sequence).passed
     }
 
     /// How many octets there are from the next one to the last that waits. It never answers want of memory.
@@ -128,11 +128,11 @@ impl Window {
         ensures waiting { result ≡ known_octets self.now.held }
         ensures most { result ≤ 1048576 }
     {
-        count_slots(&self.slots)
+        count_filled_slots(&self.slots)
     }
 
     /// The next octet, if it came.
-    fn first(&self) -> Option<u8>
+    fn next_octet(&self) -> Option<u8>
         ensures { result ≡ slot self.now.held 0 }
     {
         match self.slots.front() {
@@ -147,7 +147,7 @@ impl Window {
         ensures handed { HandsTo self.old output.old.items self.new output.new.items }
         ensures all { OnOk result (slot self.new.held 0 ≡ None) }
     {
-        'octets: while let Some(octet) = self.first() {
+        'octets: while let Some(octet) = self.next_octet() {
             output.push(octet)?;
             let _ = self.slots.pop_front();
             self.next = self.next.wrapping_add(1);
@@ -176,7 +176,7 @@ impl Window {
             × IsTooFar (arrival_from self.old.next sequence octets.now)) }
     {
         if self.slots.is_empty() && self.next == sequence && octets.len() <= WINDOW {
-            return self.pass(octets, output);
+            return self.hand_on_octets(octets, output);
         }
         match self.take(sequence, octets) {
             Ok(()) => match self.hand_out(output) {
@@ -188,7 +188,7 @@ impl Window {
     }
 
     /// Hands on octets that begin at the next number, where nothing waits.
-    fn pass(&mut self, octets: &[u8], output: &mut Vec<u8>) -> Result<(), WindowFault>
+    fn hand_on_octets(&mut self, octets: &[u8], output: &mut Vec<u8>) -> Result<(), WindowFault>
         requires none { self.old.held ≡ [] }
         requires most { length octets.now ≤ 1048576 }
         ensures passed { OnOk result (HandsStraight self.old octets.now self.new) }

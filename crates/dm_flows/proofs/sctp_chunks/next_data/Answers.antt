@@ -7,14 +7,15 @@ pub returns-then-size-gt-DATA_LEN-clause-found : goal.returns-then-size-gt-DATA_
 returns-then-size-gt-DATA_LEN-clause-found c =
     let is = data_at_front c.chunks.rest.now _ c.in-Some.size refl c.in-Some.ensures.whole.1 c.in-Some.ensures.whole.0
     c.if-rest-eq-DATA.true c.if-size-gt-DATA_LEN.true in
-    data_found _ c.chunks.rest.now _ _ c.chunks.invariant is c.data_at.ensures c.after_chunk-behind.ensures
+    data_found _ c.chunks.rest.now _ _ c.chunks.invariant is c.read_data_chunk.ensures
+    c.octets_after_chunk-behind.ensures
 
 pub returns-then-size-gt-DATA_LEN-clause-shorter : goal.returns-then-size-gt-DATA_LEN-clause-shorter
 returns-then-size-gt-DATA_LEN-clause-shorter c =
-    data_shorter _ c.chunks.rest.now _ c.chunks.invariant c.in-Some.ensures.whole.0 c.after_chunk-behind.ensures
+    data_shorter _ c.chunks.rest.now _ c.chunks.invariant c.in-Some.ensures.whole.0 c.octets_after_chunk-behind.ensures
 
 pub chunks-preserved : goal.chunks-preserved
 chunks-preserved c =
     behind_one _ c.chunks.rest.now _ c.chunks.invariant c.in-Some.ensures.whole.0
     (other_found c.chunks.rest.now _ c.in-Some.size refl c.in-Some.ensures.whole.1 c.else-rest-eq-DATA.either)
-    c.after_chunk-behind.ensures
+    c.octets_after_chunk-behind.ensures

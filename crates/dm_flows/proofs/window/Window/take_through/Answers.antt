@@ -12,14 +12,14 @@ returns-then-octets-le-WINDOW-clause-through c =
     sym (ap (λ (w : WindowState). w.held) c.self.view_is) ∙ empty_list c.self.inside.slots.items empty in
     let next : c.args.self.now.next ≡ c.args.sequence =
     sym (ap (λ (w : WindowState). w.next) c.self.view_is) ∙ c.if-self-sequence.true in
-    on_both c.pass.result _ _ _ c.pass.ensures.passed c.pass.ensures.put
+    on_both c.hand_on_octets.result _ _ _ c.hand_on_octets.ensures.passed c.hand_on_octets.ensures.put
     (λ straight put.
-    through_straight c.args.self.now c.pass.new.self c.args.sequence c.args.octets.now c.args.output.now.items
-    c.pass.new.output.items none next (omega arith) straight put)
+    through_straight c.args.self.now c.hand_on_octets.new.self c.args.sequence c.args.octets.now c.args.output.now.items
+    c.hand_on_octets.new.output.items none next (omega arith) straight put)
 
 pub returns-then-octets-le-WINDOW-clause-near : goal.returns-then-octets-le-WINDOW-clause-near
 returns-then-octets-le-WINDOW-clause-near c =
     let next : c.args.self.now.next ≡ c.args.sequence =
     sym (ap (λ (w : WindowState). w.next) c.self.view_is) ∙ c.if-self-sequence.true in
-    on_ok c.pass.result _
+    on_ok c.hand_on_octets.result _
     (straight_near c.args.self.now.next c.args.sequence c.args.octets.now next (omega arith) (omega arith))
