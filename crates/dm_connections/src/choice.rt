@@ -20,7 +20,7 @@ pub enum Choice<'a> {
 }
 
 /// Whether the end has one of the ports.
-fn is_at(ports: &[u16], end: Endpoint) -> bool
+fn has_one_of_ports(ports: &[u16], end: Endpoint) -> bool
     ensures { result ≡ has_port ports.now end }
 {
     ports.contains(&end.port)
@@ -32,7 +32,8 @@ pub(crate) fn is_wanted<S: Copy, C: Takes<S>>(choice: Choice<'_>, sent: S) -> bo
 {
     let ends = C::ends_of(sent);
     match choice {
-        Choice::Ports(ports) => is_at(ports, ends.first) || is_at(ports, ends.second),
+        Choice::Ports(ports) => has_one_of_ports(ports, ends.first)
+            || has_one_of_ports(ports, ends.second),
         Choice::Any => C::begins_exchange(sent),
     }
 }

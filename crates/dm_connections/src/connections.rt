@@ -8,7 +8,7 @@ ghost use Rattle.dm_connections.specs.Held.{ConnectionGoesOn, OneWayGoesOn, HasP
 ghost use Rattle.dm_connections.specs.Held.{SentGoesIn};
 
 use crate::choice::{Choice, is_wanted};
-use crate::counted::{changed_sum, hear_counted, next_counted};
+use crate::counted::{changed_sum, next_message_counted, take_sent_counted};
 use crate::ends::Ends;
 use crate::limits::Limits;
 use crate::two_way::{Takes, TwoWay};
@@ -102,7 +102,7 @@ impl<C: TwoWay> Connections<C> {
     }
 
     /// Whether a connection of these ends is held, in this order.
-    fn has(&self, ends: Ends) -> bool
+    fn holds(&self, ends: Ends) -> bool
         ensures { result ≡ holds_ends self.now.held ends }
     {
         self.held.contains(&ends)
@@ -117,14 +117,14 @@ impl<C: TwoWay> Connections<C> {
             first: source,
             second: destination,
         };
-        if self.has(forth) {
+        if self.holds(forth) {
             return Some(forth);
         }
         let back = Ends {
             first: destination,
             second: source,
         };
-        if self.has(back) { Some(back) } else { None }
+        if self.holds(back) { Some(back) } else { None }
     }
 
     /// The connection of these ends; None where none is held. It never answers want of memory.
@@ -146,7 +146,7 @@ impl<C: TwoWay> Connections<C> {
     }
 
     /// Holds a new connection of these ends, of which none is held.
-    fn put(&mut self, ends: Ends) -> Result<(), AllocError>
+    fn hold_new(&mut self, ends: Ends) -> Result<(), AllocError>
         requires { connection_of self.old.held ends ≡ None }
         ensures put { OnOk result
             (self.new ≡ record self.old { held = with_newest C.new_of self.old.max ends self.old.held }) }
@@ -170,7 +170,7 @@ impl<C: TwoWay> Connections<C> {
     {
         match self.find(ends.first, ends.second) {
             Some(_) => Ok(()),
-            None => self.put(ends),
+            None => self.hold_new(ends),
         }
     }
 
@@ -189,7 +189,7 @@ impl<C: TwoWay> Connections<C> {
         // Asked for its clause: fewer than 2^63 are held.
         let _count = self.held.len();
         match self.held.get_mut(&ends) {
-            Some(connection) => hear_counted(connection, &mut self.octets, sent),
+            Some(connection) => take_sent_counted(connection, &mut self.octets, sent),
             None => Ok(()),
         }
     }
@@ -210,7 +210,7 @@ impl<C: TwoWay> Connections<C> {
         // Asked for its clause: fewer than 2^63 are held.
         let _count = self.held.len();
         match self.held.peek_mut(&ends) {
-            Some(connection) => next_counted(connection, &mut self.octets, from_first),
+            Some(connection) => next_message_counted(connection, &mut self.octets, from_first),
             None => Ok(None),
         }
     }
@@ -234,7 +234,11 @@ impl<C: TwoWay> Connections<C> {
     }
 
     /// The ends of the connection of what is sent, which is held from here on where it is wanted; else None.
-    fn place<S: Copy>(&mut self, choice: Choice<'_>, sent: S) -> Result<Option<Ends>, AllocError>
+    fn hold_if_wanted<S: Copy>(
+        &mut self,
+        choice: Choice<'_>,
+        sent: S,
+    ) -> Result<Option<Ends>, AllocError>
     where
         C: Takes<S>,
         ensures place { IfOk result (λ found. IfSome found (λ ends.
@@ -253,7 +257,7 @@ impl<C: TwoWay> Connections<C> {
         if !is_wanted::<S, C>(choice, sent) {
             return Ok(None);
         }
-        match self.put(ends) {
+        match self.hold_new(ends) {
             Ok(()) => Ok(Some(ends)),
             Err(error) => Err(error),
         }
@@ -279,7 +283,7 @@ impl<C: TwoWay> Connections<C> {
             (λ before after. C.LeavesSent before sent after))) }
         ensures max { self.new.max ≡ self.old.max }
     {
-        match self.place(choice, sent) {
+        match self.hold_if_wanted(choice, sent) {
             Ok(Some(ends)) => match self.hear(ends, sent) {
                 Ok(()) => Ok(Some(ends)),
                 Err(error) => Err(error),

@@ -14,7 +14,7 @@ pub(crate) fn changed_sum(sum: u128, before: u64, after: u64) -> u128
 }
 
 /// The connection takes what one of its ends sent.
-pub(crate) fn hear_counted<S: Copy, C: Takes<S>>(
+pub(crate) fn take_sent_counted<S: Copy, C: Takes<S>>(
     connection: &mut C,
     sum: &mut u128,
     sent: S,
@@ -32,7 +32,7 @@ pub(crate) fn hear_counted<S: Copy, C: Takes<S>>(
 }
 
 /// Hands out the next message, as [`TwoWay::next_message`] does.
-pub(crate) fn next_counted<C: TwoWay>(
+pub(crate) fn next_message_counted<C: TwoWay>(
     connection: &mut C,
     sum: &mut u128,
     from_first: bool,

@@ -5,31 +5,32 @@ use Rattle.dm_connections.proofs.Results.{on_ok}
 use Rattle.dm_connections.proofs.Sums.{sum_heard, sum_part, sum_fits}
 use Rattle.dm_connections.proofs.connections.Connections.hear.Goals as goal
 
-pub hear_counted-requires-clause-part : goal.hear_counted-requires-clause-part
-hear_counted-requires-clause-part g c =
+pub take_sent_counted-requires-clause-part : goal.take_sent_counted-requires-clause-part
+take_sent_counted-requires-clause-part g c =
     let part = sum_part g.C.TwoWay.held_in (same_ends c.args.ends) c.self.inside.held.entries _ (sym c.in-Some.ensures.value) in
     let all = c.self.invariant.all in
     omega (arith, part, all)
 
-pub hear_counted-requires-clause-fits : goal.hear_counted-requires-clause-fits
-hear_counted-requires-clause-fits g c =
+pub take_sent_counted-requires-clause-fits : goal.take_sent_counted-requires-clause-fits
+take_sent_counted-requires-clause-fits g c =
     let most = sum_fits g.C.TwoWay.held_in c.self.inside.held.entries g.met.C.TwoWay.held_fits (omega arith) in
     let all = c.self.invariant.all in
     omega (arith, most, all)
 
 pub invariant_of-self : goal.invariant_of-self
 invariant_of-self g c =
-    let heard = sum_heard g.C.TwoWay.held_in (same_ends c.args.ends) c.self.inside.held.entries _ c.hear_counted.new.connection
-    (sym c.in-Some.ensures.value) in
+    let heard = sum_heard g.C.TwoWay.held_in (same_ends c.args.ends) c.self.inside.held.entries _
+    c.take_sent_counted.new.connection (sym c.in-Some.ensures.value) in
     let all = c.self.invariant.all in
-    let sum = c.hear_counted.ensures.sum in
+    let sum = c.take_sent_counted.ensures.sum in
     record { all = omega (arith, heard, all, sum); endless = c.self.invariant.endless }
 
 pub returns-in-Some-clause-heard : goal.returns-in-Some-clause-heard
 returns-in-Some-clause-heard g c =
-    rw (← c.self.view_is) (on_ok c.hear_counted.result _ _ c.hear_counted.ensures.taken (λ takes there. record {
+    rw (← c.self.view_is)
+    (on_ok c.take_sent_counted.result _ _ c.take_sent_counted.ensures.taken (λ takes there. record {
       before = c.in-Some.connection.now;
-      after = c.hear_counted.new.connection;
+      after = c.take_sent_counted.new.connection;
       there = sym c.in-Some.ensures.value;
       goes = takes;
       all = refl;

@@ -7,24 +7,24 @@ use Rattle.dm_connections.proofs.Results.{on_err}
 use Rattle.dm_connections.proofs.Sums.{sum_set, sum_part, sum_fits}
 use Rattle.dm_connections.proofs.connections.Connections.next.Goals as goal
 
-pub next_counted-requires-clause-part : goal.next_counted-requires-clause-part
-next_counted-requires-clause-part g c =
+pub next_message_counted-requires-clause-part : goal.next_message_counted-requires-clause-part
+next_message_counted-requires-clause-part g c =
     let part = sum_part g.C.TwoWay.held_in (same_ends c.args.ends) c.self.inside.held.entries _ (sym c.in-Some.ensures.value) in
     let all = c.self.invariant.all in
     omega (arith, part, all)
 
-pub next_counted-requires-clause-fits : goal.next_counted-requires-clause-fits
-next_counted-requires-clause-fits g c =
+pub next_message_counted-requires-clause-fits : goal.next_message_counted-requires-clause-fits
+next_message_counted-requires-clause-fits g c =
     let most = sum_fits g.C.TwoWay.held_in c.self.inside.held.entries g.met.C.TwoWay.held_fits (omega arith) in
     let all = c.self.invariant.all in
     omega (arith, most, all)
 
 pub invariant_of-self : goal.invariant_of-self
 invariant_of-self g c =
-    let set = sum_set g.C.TwoWay.held_in (same_ends c.args.ends) c.self.inside.held.entries _ c.next_counted.new.connection
-    (sym c.in-Some.ensures.value) in
+    let set = sum_set g.C.TwoWay.held_in (same_ends c.args.ends) c.self.inside.held.entries _
+    c.next_message_counted.new.connection (sym c.in-Some.ensures.value) in
     let all = c.self.invariant.all in
-    let sum = c.next_counted.ensures.sum in
+    let sum = c.next_message_counted.ensures.sum in
     record { all = omega (arith, set, all, sum); endless = c.self.invariant.endless }
 
 pub returns-in-Some-clause-unchanged : goal.returns-in-Some-clause-unchanged
@@ -32,5 +32,5 @@ returns-in-Some-clause-unchanged g c =
     let entries = c.self.inside.held.entries in
     let again = state_again (same_ends c.args.ends) entries _ (sym c.in-Some.ensures.value) in
     let table : HeldByEnds g.row.C.Denot → HeldTable g.row.C.Denot = λ held. record { max = c.self.inside.max; held = held } in
-    rw (← c.self.view_is) (on_err c.next_counted.result _ _ c.next_counted.ensures.unchanged (λ same.
+    rw (← c.self.view_is) (on_err c.next_message_counted.result _ _ c.next_message_counted.ensures.unchanged (λ same.
     ap table (ap (λ w. set_value (same_ends c.args.ends) entries w) same ∙ again)))

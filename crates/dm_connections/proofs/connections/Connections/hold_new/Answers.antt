@@ -1,7 +1,7 @@
 -- A new connection goes in front.
 use Rattle.std.proofs.Common.{refl, arith}
 use Rattle.dm_connections.proofs.Placing.{put_in_front}
-use Rattle.dm_connections.proofs.connections.Connections.put.Goals as goal
+use Rattle.dm_connections.proofs.connections.Connections.hold_new.Goals as goal
 
 pub invariant_of-self : goal.invariant_of-self
 invariant_of-self g c =
