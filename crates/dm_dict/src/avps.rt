@@ -14,10 +14,10 @@ ghost use Rattle.dm_dict.specs.Rules.{definition};
 use crate::codes::{
     AVP_NOT_ALLOWED, AVP_UNSUPPORTED, FAILED_AVP, INVALID_AVP_LENGTH, INVALID_AVP_VALUE,
 };
-use crate::counts::{MANY_ENTRIES, count_one, counters, counts_for};
+use crate::counts::{MANY_ENTRIES, count_at_entry, counters, long_rule_counters};
 use crate::judged::{Failed, Judged};
 use crate::linked::{Linked, LinkedAvp, LinkedRule};
-use crate::rules::{allows, look_up_marked};
+use crate::rules::{allows, look_up_by_marks};
 use crate::windows::judge_entries;
 use byteorder::{BigEndian, ByteOrder};
 use dm_tables::AvpDef;
@@ -161,13 +161,13 @@ pub(crate) fn judge_counted<'a>(
 {
     let mut left = from;
     while let Some((avp, rest)) = left.split_first() {
-        let (place, at) = look_up_marked(dictionary, rule, avp);
+        let (place, at) = look_up_by_marks(dictionary, rule, avp);
         let allowed = allows(rule.entries, at);
         match judge_avp(dictionary, place, allowed, avp, depth, alloc) {
             Judged::Good => {}
             Judged::Bad { code, failed } => return Judged::Bad { code, failed },
         }
-        count_one(counts, 0, at);
+        count_at_entry(counts, 0, at);
         left = rest;
     }
     judge_entries(&dictionary.tables, rule, counts, list)
@@ -176,7 +176,7 @@ pub(crate) fn judge_counted<'a>(
 /// The same under a rule of any length, by counters on the stack.
 #[cycle(judge)]
 #[inline(never)]
-fn judge_many<'a>(
+fn judge_list_on_stack<'a>(
     dictionary: &Linked,
     rule: LinkedRule<'_>,
     list: AvpsRef<'a>,
@@ -211,8 +211,8 @@ fn judge_list<'a>(
         → shown result ≡ first (list_faults depth dictionary.now.tables.avps.items rule.entry.entries.now l) }
     ensures missing { finds_missing result ≡ false }
 {
-    let Some(mut counts) = counts_for(alloc, rule.entries) else {
-        return judge_many(dictionary, rule, list, depth, alloc);
+    let Some(mut counts) = long_rule_counters(alloc, rule.entries) else {
+        return judge_list_on_stack(dictionary, rule, list, depth, alloc);
     };
     let room = counts.as_mut_slice();
     let judged = judge_counted(dictionary, rule, list, list, depth, alloc, room);

@@ -14,9 +14,9 @@ fn is_between(octet: u8, least: u8, most: u8) -> bool
     octet >= least && octet <= most
 }
 
-/// Whether all octets are, one at a time.
+/// Whether all octets lie between the two, one at a time.
 #[inline(always)]
-fn each_between(octets: &[u8], least: u8, most: u8) -> bool
+fn are_between_singly(octets: &[u8], least: u8, most: u8) -> bool
     ensures { result ≡ list_all (is_in_range least most) octets.now }
 {
     octets.iter().all(|octet| is_between(*octet, least, most))
@@ -24,7 +24,7 @@ fn each_between(octets: &[u8], least: u8, most: u8) -> bool
 
 /// The same, four at a time.
 #[inline(always)]
-fn few_between(octets: &[u8], least: u8, most: u8) -> bool
+fn are_between_by_fours(octets: &[u8], least: u8, most: u8) -> bool
     ensures { result ≡ list_all (is_in_range least most) octets.now }
 {
     let mut left = octets;
@@ -38,12 +38,12 @@ fn few_between(octets: &[u8], least: u8, most: u8) -> bool
         }
         left = rest;
     }
-    each_between(left, least, most)
+    are_between_singly(left, least, most)
 }
 
 /// A mark for each of sixteen octets: 0 where it lies between the two.
 #[inline(always)]
-fn marks_of(octets: u8x16, least: u8, most: u8) -> u8x16
+fn range_marks(octets: u8x16, least: u8, most: u8) -> u8x16
     requires { least ≤ most }
     ensures { is_unmarked result ≡ list_all (is_in_range least most) octets }
 {
@@ -52,7 +52,7 @@ fn marks_of(octets: u8x16, least: u8, most: u8) -> u8x16
 
 /// The higher mark of each lane.
 #[inline(always)]
-fn higher_of(marks: u8x16, others: u8x16) -> u8x16
+fn higher_marks(marks: u8x16, others: u8x16) -> u8x16
     ensures { is_unmarked result ≡ (is_unmarked marks && is_unmarked others) }
 {
     marks.simd_max(others)
@@ -60,14 +60,14 @@ fn higher_of(marks: u8x16, others: u8x16) -> u8x16
 
 /// Whether all marks are 0.
 #[inline(always)]
-fn are_none(marks: u8x16) -> bool
+fn are_marks_zero(marks: u8x16) -> bool
     ensures { result ≡ is_unmarked marks }
 {
     marks.simd_gt(u8x16::splat(0)).to_bitmask() == 0
 }
 
-/// Whether all octets of a long text are, of which the first and the last sixteen are.
-fn inner_between(octets: &[u8], least: u8, most: u8) -> bool
+/// Whether all octets of a long text lie between the two, where the first and the last sixteen do.
+fn are_inner_between(octets: &[u8], least: u8, most: u8) -> bool
     requires order { least ≤ most }
     requires long { 16 ≤ length octets.now }
     requires first { list_all (is_in_range least most) (take 16 octets.now) ≡ true }
@@ -76,7 +76,7 @@ fn inner_between(octets: &[u8], least: u8, most: u8) -> bool
 {
     let mut at = 16;
     while octets.len() - at > 16 {
-        if !are_none(marks_of(u8x16::from_slice(&octets[at..]), least, most)) {
+        if !are_marks_zero(range_marks(u8x16::from_slice(&octets[at..]), least, most)) {
             return false;
         }
         at += 16;
@@ -84,16 +84,17 @@ fn inner_between(octets: &[u8], least: u8, most: u8) -> bool
     true
 }
 
-/// Whether all octets are, of sixteen or more.
+/// Whether all octets, sixteen or more, lie between the two.
 #[inline(always)]
-fn many_between(octets: &[u8], least: u8, most: u8) -> bool
+fn are_between_by_sixteens(octets: &[u8], least: u8, most: u8) -> bool
     requires order { least ≤ most }
     requires long { 16 ≤ length octets.now }
     ensures { result ≡ list_all (is_in_range least most) octets.now }
 {
-    let first = marks_of(u8x16::from_slice(octets), least, most);
-    let last = marks_of(u8x16::from_slice(&octets[octets.len() - 16..]), least, most);
-    are_none(higher_of(first, last)) && (octets.len() <= 32 || inner_between(octets, least, most))
+    let first = range_marks(u8x16::from_slice(octets), least, most);
+    let last = range_marks(u8x16::from_slice(&octets[octets.len() - 16..]), least, most);
+    are_marks_zero(higher_marks(first, last))
+        && (octets.len() <= 32 || are_inner_between(octets, least, most))
 }
 
 /// Whether all octets are no less than one and no more than another.
@@ -103,8 +104,8 @@ pub(crate) fn are_between(octets: &[u8], least: u8, most: u8) -> bool
     ensures { result ≡ list_all (is_in_range least most) octets.now }
 {
     if octets.len() < 16 {
-        few_between(octets, least, most)
+        are_between_by_fours(octets, least, most)
     } else {
-        many_between(octets, least, most)
+        are_between_by_sixteens(octets, least, most)
     }
 }

@@ -31,14 +31,14 @@ impl Model for Bounds {
 }
 
 /// The least counter that keeps an entry.
-fn least_kept(entry: &Entry) -> u16
+fn least_counter(entry: &Entry) -> u16
     ensures { result ≡ least_bound entry.now }
 {
     entry.min.min(u16::MAX as u32) as u16
 }
 
-/// The greatest counter that does: none, where the least can't be told, since no counter is 0 and that too.
-fn most_kept(entry: &Entry) -> u16
+/// The greatest counter that keeps an entry; 0, under the least, where its min is more than a counter can tell.
+fn greatest_counter(entry: &Entry) -> u16
     ensures { result ≡ greatest_bound entry.now }
 {
     if entry.min > u16::MAX as u32 {
@@ -59,28 +59,28 @@ fn padding(size: usize) -> usize
 
 /// Puts the bounds of the entries into lanes that are 0, the least ones from the first lane on and the greatest from
 /// the one in the middle.
-fn fill(lanes: &mut [u16], entries: &[Entry], room: usize)
+fn write_bounds(lanes: &mut [u16], entries: &[Entry], room: usize)
     requires room { length entries.now ≤ room }
     requires both { lanes.old ≡ replicate (2 * room) 0 }
     ensures { lanes.new ≡ in_lanes least_bound entries.now room ++ in_lanes greatest_bound entries.now room }
 {
     for (at, entry) in entries.iter().enumerate() {
-        lanes[at] = least_kept(entry);
-        lanes[room + at] = most_kept(entry);
+        lanes[at] = least_counter(entry);
+        lanes[room + at] = greatest_counter(entry);
     }
 }
 
 /// How far lanes go past those beside them: 0 in each that doesn't.
 #[inline(always)]
-fn past(lanes: u16x8, others: u16x8) -> u16x8
+fn lane_excess(lanes: u16x8, others: u16x8) -> u16x8
     ensures { is_unmarked result ≡ true → AreUnder lanes others }
 {
     lanes.saturating_sub(others)
 }
 
-/// What is told of both.
+/// The marks of both: a lane is 0 where it is in both.
 #[inline(always)]
-fn either_of(marks: u16x8, others: u16x8) -> u16x8
+fn joined_marks(marks: u16x8, others: u16x8) -> u16x8
     ensures first { is_unmarked result ≡ true → is_unmarked marks ≡ true }
     ensures second { is_unmarked result ≡ true → is_unmarked others ≡ true }
 {
@@ -89,7 +89,7 @@ fn either_of(marks: u16x8, others: u16x8) -> u16x8
 
 /// Whether each lane is 0.
 #[inline(always)]
-fn are_none(marks: u16x8) -> bool
+fn are_lanes_zero(marks: u16x8) -> bool
     ensures { result ≡ true → is_unmarked marks ≡ true }
 {
     marks.simd_gt(u16x8::splat(0)).to_bitmask() == 0
@@ -97,7 +97,7 @@ fn are_none(marks: u16x8) -> bool
 
 /// How far eights of counters lie outside of their bounds: 0 in each lane where none does.
 #[inline(always)]
-fn outside_of(mins: &[u16], maxs: &[u16], counts: &[u16]) -> u16x8
+fn bounds_excess(mins: &[u16], maxs: &[u16], counts: &[u16]) -> u16x8
     requires eights { length mins.now % 8 ≡ 0 }
     requires same { length maxs.now ≡ length mins.now }
     requires counted { length mins.now ≤ length counts.now }
@@ -106,9 +106,9 @@ fn outside_of(mins: &[u16], maxs: &[u16], counts: &[u16]) -> u16x8
     let mut outside = u16x8::splat(0);
     'eights: for k in 0..mins.len() / 8 {
         let counters = u16x8::from_slice(&counts[8 * k..]);
-        let under = past(u16x8::from_slice(&mins[8 * k..]), counters);
-        let over = past(counters, u16x8::from_slice(&maxs[8 * k..]));
-        outside = either_of(outside, either_of(under, over));
+        let under = lane_excess(u16x8::from_slice(&mins[8 * k..]), counters);
+        let over = lane_excess(counters, u16x8::from_slice(&maxs[8 * k..]));
+        outside = joined_marks(outside, joined_marks(under, over));
     }
     outside
 }
@@ -130,7 +130,7 @@ impl Bounds {
         let entries = rule.as_slice();
         let room = entries.len() + padding(entries.len());
         let mut lanes = vec![in alloc; 0; 2 * room]?;
-        fill(lanes.as_mut_slice(), entries, room);
+        write_bounds(lanes.as_mut_slice(), entries, room);
         Ok(Bounds { lanes })
     }
 
@@ -149,6 +149,6 @@ impl Bounds {
         ensures { result ≡ true → AreWithin self.now counts.now }
     {
         let (mins, maxs) = self.lanes.as_slice().split_at(self.lanes.len() / 2);
-        are_none(outside_of(mins, maxs, counts))
+        are_lanes_zero(bounds_excess(mins, maxs, counts))
     }
 }

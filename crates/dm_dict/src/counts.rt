@@ -12,7 +12,7 @@ ghost use Rattle.dm_dict.specs.Rules.{is_at};
 ghost use Rattle.dm_dict.specs.Limits.{counter_limit, window};
 
 use crate::linked::LinkedRule;
-use crate::rules::look_up;
+use crate::rules::look_up_avp;
 use dm_tables::{Rule, Tables};
 use dm_wire::AvpsRef;
 use std::alloc::Global;
@@ -40,7 +40,7 @@ pub(crate) fn counters<const SIZE: usize>() -> [u16; SIZE]
 }
 
 /// A counter for each entry of a rule that has more of them than are counted on the stack, if there is memory for that.
-pub(crate) fn counts_for(alloc: Option<Global>, rule: &Rule) -> Option<Vec<u16>>
+pub(crate) fn long_rule_counters(alloc: Option<Global>, rule: &Rule) -> Option<Vec<u16>>
     ensures zero { IfSome result (λ counts. (i : ℕ) → slice_index counts.items i ≡ 0) }
     ensures size { IfSome result (λ counts. length counts.items ≡ length rule.now) }
 {
@@ -54,7 +54,7 @@ pub(crate) fn counts_for(alloc: Option<Global>, rule: &Rule) -> Option<Vec<u16>>
 /// One AVP more for the entry at the place, if it has one of the counters, which are for those from `from` on. A
 /// counter stops at 65535.
 #[inline(always)]
-pub(crate) fn count_one(counts: &mut [u16], from: usize, at: Option<usize>)
+pub(crate) fn count_at_entry(counts: &mut [u16], from: usize, at: Option<usize>)
     ensures size { length counts.new ≡ length counts.old }
     ensures counted { (i : ℕ) → i < length counts.new
         → slice_index counts.new i
@@ -68,7 +68,7 @@ pub(crate) fn count_one(counts: &mut [u16], from: usize, at: Option<usize>)
 }
 
 /// How many AVPs of the list each of the entries from `from` on counts that have counters, up to 65535.
-pub(crate) fn count_from(
+pub(crate) fn count_avps_from(
     tables: &Tables,
     rule: LinkedRule<'_>,
     from: usize,
@@ -85,8 +85,8 @@ pub(crate) fn count_from(
 {
     let mut left = list;
     while let Some((avp, rest)) = left.split_first() {
-        let (_, at) = look_up(tables, rule, avp);
-        count_one(counts, from, at);
+        let (_, at) = look_up_avp(tables, rule, avp);
+        count_at_entry(counts, from, at);
         left = rest;
     }
 }

@@ -53,7 +53,7 @@ impl Model for Dictionary {
 }
 
 /// The dictionary of the tables, or want of memory for the links of their rules.
-fn link(alloc: Global, tables: Tables) -> Result<Dictionary, NoMemory>
+fn linked_dictionary(alloc: Global, tables: Tables) -> Result<Dictionary, NoMemory>
     requires { IsDictionary tables }
     ensures { IfOk result (λ dictionary. dictionary ≡ defined tables) }
 {
@@ -77,7 +77,7 @@ impl Dictionary {
         ensures { IfOk result (λ dictionary. dictionary ≡ base_definitions) }
     {
         let tables = base_tables(alloc)?;
-        link(alloc, tables)
+        linked_dictionary(alloc, tables)
     }
 
     /// The definitions of the old dictionary, followed by those of the text in the command code format
@@ -99,7 +99,7 @@ impl Dictionary {
         one_fault();
         no_definition_refused();
         match read_tables(alloc, text, &old.linked.tables) {
-            Ok(tables) => Ok(link(alloc, tables)?),
+            Ok(tables) => Ok(linked_dictionary(alloc, tables)?),
             Err(fault) => Err(fault),
         }
     }

@@ -140,7 +140,7 @@ fn judge_bounds<'a>(
 }
 
 /// Whether the counter alone shows that the entry has no fault.
-fn is_kept(entry: &Entry, counter: u16) -> bool
+fn is_within_bounds(entry: &Entry, counter: u16) -> bool
     ensures { (avps : List AvpDef) (rule : List Entry) (l : List Avp)
         → counter ≡ min (count avps rule l entry.now) counter_limit → result ≡ true
         → None ≡ first (entry_faults avps rule l entry.now) }
@@ -155,13 +155,13 @@ fn is_kept(entry: &Entry, counter: u16) -> bool
 }
 
 /// Whether the counters alone show that no entry of the rule has a fault.
-fn are_kept(rule: &Rule, counts: &[u16]) -> bool
+fn are_within_bounds(rule: &Rule, counts: &[u16]) -> bool
     requires room { length rule.now ≤ length counts.now }
     ensures { (avps : List AvpDef) (l : List Avp) → IsCounted avps rule.now l 0 counts.now → result ≡ true
         → None ≡ first (flat_map (entry_faults avps rule.now l) rule.now) }
 {
     for (at, entry) in rule.as_slice().iter().enumerate() {
-        if !is_kept(entry, counts[at]) {
+        if !is_within_bounds(entry, counts[at]) {
             return false;
         }
     }
@@ -171,7 +171,7 @@ fn are_kept(rule: &Rule, counts: &[u16]) -> bool
 /// Whether the counters, where there are enough, alone show that no entry of the rule has a fault: by its bounds, eight
 /// beside each other, where there is a counter for each of them.
 #[inline(always)]
-pub(crate) fn keep_bounds(rule: LinkedRule<'_>, counts: &[u16]) -> bool
+pub(crate) fn are_bounds_kept(rule: LinkedRule<'_>, counts: &[u16]) -> bool
     requires bounds { rule.links.now.bounds ≡ rule_bounds rule.entries.now }
     ensures { (avps : List AvpDef) (l : List Avp) → IsCounted avps rule.entry.entries.now l 0 counts.now → result ≡ true
         → None ≡ first (flat_map (entry_faults avps rule.entry.entries.now l) rule.entry.entries.now) }
@@ -180,7 +180,7 @@ pub(crate) fn keep_bounds(rule: LinkedRule<'_>, counts: &[u16]) -> bool
     if bounds.len() <= counts.len() {
         bounds.hold(counts)
     } else {
-        rule.entries.as_slice().len() <= counts.len() && are_kept(rule.entries, counts)
+        rule.entries.as_slice().len() <= counts.len() && are_within_bounds(rule.entries, counts)
     }
 }
 
@@ -201,7 +201,7 @@ pub(crate) fn judge_entry<'a>(
         → shown result ≡ first (entry_faults tables.now.avps.items rule.entry.entries.now l e) }
     ensures missing { finds_missing result ≡ false }
 {
-    if is_kept(&rule.entries.as_slice()[at], counter) {
+    if is_within_bounds(&rule.entries.as_slice()[at], counter) {
         Judged::Good
     } else {
         judge_bounds(tables, rule, at, counter, list)

@@ -11,14 +11,14 @@ ghost use Rattle.dm_dict.specs.Listing.{all_told, AreFoundIn};
 use crate::fault::Fault;
 use crate::findings::Findings;
 use crate::linked::Linked;
-use crate::message_faults::find;
+use crate::message_faults::find_faults;
 use crate::{Dictionary, NoMemory};
 use dm_wire::laws::members_spell;
 use dm_wire::{AvpsRef, Header, Message, MessageRef};
 use std::alloc::Global;
 
 /// All faults of a message of this header and these AVPs, in order.
-fn listed<'a>(
+fn collect_faults<'a>(
     alloc: Global,
     dictionary: &Linked,
     header: &Header,
@@ -31,7 +31,7 @@ fn listed<'a>(
         → has_none (faults (defined dictionary.now.tables) (record { header = header.now; avps = l })) ≡ false) }
 {
     let mut findings = Findings::new(alloc);
-    let done = find(alloc, &mut findings, None, dictionary, header, list);
+    let done = find_faults(alloc, &mut findings, None, dictionary, header, list);
     let Findings { faults, located } = findings;
     drop(located);
     done.and(Ok(faults))
@@ -51,7 +51,7 @@ fn faults_of_spelled<'a>(
         → has_none (faults (defined dictionary.now.tables) (record { header = header.now; avps = l })) ≡ false) }
 {
     members_spell();
-    listed(alloc, dictionary, header, AvpsRef::Spelled(octets))
+    collect_faults(alloc, dictionary, header, AvpsRef::Spelled(octets))
 }
 
 impl Dictionary {
@@ -74,7 +74,7 @@ impl Dictionary {
         ensures memory { OnErr result (has_none (faults self.now message.now) ≡ false) }
     {
         let list = AvpsRef::Held(message.avps.as_slice());
-        listed(alloc, &self.linked, &message.header, list)
+        collect_faults(alloc, &self.linked, &message.header, list)
     }
 
     /// All that is wrong with the message where it lies: the same as `faults` of the decoded message.

@@ -31,7 +31,11 @@ impl<'a> Findings<'a> {
     }
 
     /// Lists a fault in the groups of the path behind the others, or without them where none are kept.
-    pub(crate) fn put(&mut self, path: Option<&Path>, fault: Fault<'a>) -> Result<(), NoMemory>
+    pub(crate) fn add_fault(
+        &mut self,
+        path: Option<&Path>,
+        fault: Fault<'a>,
+    ) -> Result<(), NoMemory>
         ensures { OnOk result (AddsAt self.old self.new (option_copied path.entry) (map here (all_told (fault.entry
             ∷ [])))) }
     {
@@ -43,7 +47,7 @@ impl<'a> Findings<'a> {
     }
 
     /// Lists faults in the groups of the path behind the others.
-    pub(crate) fn put_all(
+    pub(crate) fn add_faults(
         &mut self,
         path: Option<&Path>,
         faults: &[Fault<'a>],
@@ -52,7 +56,7 @@ impl<'a> Findings<'a> {
     {
         let mut left = faults;
         while let [fault, rest @ ..] = left {
-            self.put(path, *fault)?;
+            self.add_fault(path, *fault)?;
             left = rest;
         }
         Ok(())

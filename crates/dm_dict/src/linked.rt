@@ -14,7 +14,7 @@ ghost use Rattle.dm_dict.specs.Linked.{IsLinked, avp_links, command_links};
 
 use crate::command_guesses::{has_head, head_guesses, head_slot};
 use crate::links::Links;
-use crate::marks::marks_of;
+use crate::marks::code_marks;
 use crate::rule_links::RuleLinks;
 use dm_tables::{AvpDef, CommandDef, NameGuesses, Rule, Tables};
 use dm_value::NoMemory;
@@ -136,7 +136,7 @@ impl Linked {
         ensures same { IfOk result (λ linked. linked.tables ≡ tables) }
         ensures linked { IfOk result IsLinked }
     {
-        let marks = marks_of(tables.avps.as_slice());
+        let marks = code_marks(tables.avps.as_slice());
         let heads = head_guesses(tables.commands.as_slice());
         let mut linked = Linked {
             tables,
@@ -211,11 +211,11 @@ impl Linked {
         requires { IsLinked self.now }
         ensures { option_copied result ≡ find (is_coded code vendor) self.now.tables.avps.items }
     {
-        self.avp_if_there(self.place_by_code(code, vendor))
+        self.avp_def_at(self.place_by_code(code, vendor))
     }
 
     /// The AVP at the place, where there is one.
-    fn avp_if_there(&self, place: Option<usize>) -> Option<&AvpDef>
+    fn avp_def_at(&self, place: Option<usize>) -> Option<&AvpDef>
         ensures { option_copied result ≡ option_and_then (slice_get self.now.tables.avps.items) place }
     {
         match place {
@@ -226,7 +226,7 @@ impl Linked {
         }
     }
 
-    /// The definition of an AVP at the place, where there is one.
+    /// The definition of the AVP at the place.
     #[inline(always)]
     pub(crate) fn def_at(&self, place: usize) -> &AvpDef
         requires { place < length self.now.tables.avps.items }
@@ -235,7 +235,7 @@ impl Linked {
         &self.tables.avps.as_slice()[place]
     }
 
-    /// The links of the rule of the AVP at the place, where there is one.
+    /// The links of the rule of the AVP at the place.
     #[inline(always)]
     pub(crate) fn links_at(&self, place: usize) -> &Links
         requires linked { IsLinked self.now }

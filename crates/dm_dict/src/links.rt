@@ -111,7 +111,7 @@ fn note_place(
 }
 
 /// The places of the links of the rows: of each the first.
-fn places(alloc: Global, rows: &[Row]) -> Result<IndexMap<usize, usize>, NoMemory>
+fn first_places(alloc: Global, rows: &[Row]) -> Result<IndexMap<usize, usize>, NoMemory>
     ensures { IfOk result (λ places. (k : ℕ)
         → get_by (nat_eq k) places ≡ position_from (has_link (Some k)) 0 rows.now) }
 {
@@ -131,7 +131,7 @@ fn index(alloc: Global, rows: &[Row]) -> Result<IndexMap<usize, usize>, NoMemory
     if rows.len() <= SHORT_RULE {
         Ok(IndexMap::new(alloc))
     } else {
-        places(alloc, rows)
+        first_places(alloc, rows)
     }
 }
 
@@ -215,7 +215,7 @@ impl Links {
 
     /// The same as `place`, without a seat.
     #[inline(never)]
-    fn searched(&self, definition: usize) -> Option<usize>
+    fn place_by_search(&self, definition: usize) -> Option<usize>
         ensures { result ≡ option_or (position_from (has_link (Some definition)) 0 self.now.rows)
             (position_from (has_link None) 0 self.now.rows) }
     {
@@ -260,9 +260,9 @@ impl Links {
             return self.any;
         }
         if seat == CROWDED {
-            return self.searched(definition);
+            return self.place_by_search(definition);
         }
-        if self.items[usize::from(seat)].is_of(code, vendor) {
+        if self.items[usize::from(seat)].names_code(code, vendor) {
             Some(usize::from(seat))
         } else {
             self.any

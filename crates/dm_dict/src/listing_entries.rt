@@ -16,7 +16,7 @@ use crate::entries::example;
 use crate::fault::Fault;
 use crate::judged::Failed;
 use crate::linked::LinkedRule;
-use crate::put::put;
+use crate::put::push_fault;
 use crate::tallies::{Tally, tallies_of};
 use dm_tables::{Entry, Rule, Tables};
 use dm_value::NoMemory;
@@ -36,7 +36,7 @@ fn list_lack<'a>(
         record { code = missing_avp; failed = example tables.now.avps.items entry.now } ∷ [] else [])) }
 {
     if tally.lack > 0 {
-        return put(faults, MISSING_AVP, example(tables, entry));
+        return push_fault(faults, MISSING_AVP, example(tables, entry));
     }
     Ok(())
 }
@@ -55,7 +55,7 @@ fn list_excess<'a>(
             if entry.max == Some(0) {
                 return Ok(());
             }
-            put(faults, AVP_OCCURS_TOO_MANY_TIMES, Failed::Found(avp))
+            push_fault(faults, AVP_OCCURS_TOO_MANY_TIMES, Failed::Found(avp))
         }
         None => Ok(()),
     }

@@ -19,9 +19,9 @@ use crate::findings::Findings;
 use crate::judged::Failed;
 use crate::linked::{Linked, LinkedAvp, LinkedRule};
 use crate::listing_entries::list_entries;
-use crate::numbers::number;
+use crate::numbers::count_occurrence;
 use crate::path::{Path, Step};
-use crate::rules::{allows, look_up_marked};
+use crate::rules::{allows, look_up_by_marks};
 use dm_tables::{AvpDef, Tables};
 use dm_value::{AvpType, NoMemory};
 use dm_wire::{AvpRef, AvpsRef, spells_avps};
@@ -30,7 +30,7 @@ use std::alloc::Global;
 
 /// Lists what is wrong with an AVP of this definition, but for its members.
 #[inline(always)]
-fn put_own<'a>(
+fn list_own_faults<'a>(
     findings: &mut Findings<'a>,
     path: Option<&Path>,
     def: Option<&AvpDef>,
@@ -44,13 +44,13 @@ fn put_own<'a>(
     let Some(def) = def else {
         if avp.mandatory {
             let code = AVP_UNSUPPORTED;
-            return findings.put(path, Fault { code, failed });
+            return findings.add_fault(path, Fault { code, failed });
         }
         return Ok(());
     };
     if !allowed {
         let code = AVP_NOT_ALLOWED;
-        findings.put(path, Fault { code, failed })?;
+        findings.add_fault(path, Fault { code, failed })?;
     }
     if is_failed_avp(avp) {
         return Ok(());
@@ -59,7 +59,7 @@ fn put_own<'a>(
         return Ok(());
     }
     match data_fault(def, avp.bytes) {
-        Some(code) => findings.put(path, Fault { code, failed }),
+        Some(code) => findings.add_fault(path, Fault { code, failed }),
         None => Ok(()),
     }
 }
@@ -85,7 +85,7 @@ fn locate_entries<'a>(
     };
     let mut faults = Vec::new(alloc);
     list_entries(alloc, tables, rule, list, &mut faults)?;
-    findings.put_all(Some(path), faults.as_slice())?;
+    findings.add_faults(Some(path), faults.as_slice())?;
     Ok(())
 }
 
@@ -113,9 +113,9 @@ fn locate_avp<'a>(
         (avp_of avp.entry) (definition dictionary.now.tables.avps.items (avp_of avp.entry)))) }
 {
     let Some(LinkedAvp { def, links }) = dictionary.avp_at(place) else {
-        return put_own(findings, path, None, allowed, avp);
+        return list_own_faults(findings, path, None, allowed, avp);
     };
-    put_own(findings, path, Some(def), allowed, avp)?;
+    list_own_faults(findings, path, Some(def), allowed, avp)?;
     if is_failed_avp(avp) {
         return Ok(());
     }
@@ -151,12 +151,12 @@ fn locate_group<'a>(
 {
     if depth == 0 {
         let (code, failed) = (INVALID_AVP_VALUE, Failed::Found(avp));
-        return findings.put(path, Fault { code, failed });
+        return findings.add_fault(path, Fault { code, failed });
     }
     if !spells_avps(avp.bytes) {
         let emptied = AvpRef { bytes: &[], ..avp };
         let (code, failed) = (INVALID_AVP_LENGTH, Failed::Found(emptied));
-        return findings.put(path, Fault { code, failed });
+        return findings.add_fault(path, Fault { code, failed });
     }
     let list = AvpsRef::Spelled(avp.bytes);
     let Some(path) = path else {
@@ -204,9 +204,9 @@ fn locate_avps<'a>(
 {
     let mut left = list;
     while let Some((avp, rest)) = left.split_first() {
-        let (place, entry) = look_up_marked(dictionary, rule, avp);
+        let (place, entry) = look_up_by_marks(dictionary, rule, avp);
         let allowed = allows(rule.entries, entry);
-        let nth = number(numbers, path, dictionary, place, avp)?;
+        let nth = count_occurrence(numbers, path, dictionary, place, avp)?;
         locate_avp(
             alloc, findings, path, nth, dictionary, place, allowed, avp, depth,
         )?;

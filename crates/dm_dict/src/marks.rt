@@ -21,7 +21,7 @@ fn first_mark(mark: u16, place: usize) -> u16
 
 /// The marks of the definitions: for the lowest bits of each one's code, one more than the place of the first that has
 /// them.
-pub(crate) fn marks_of(avps: &[AvpDef]) -> [u16; 512]
+pub(crate) fn code_marks(avps: &[AvpDef]) -> [u16; 512]
     ensures { AreMarked avps.now result }
 {
     let mut marks = [0; 512];

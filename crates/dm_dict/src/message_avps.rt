@@ -12,20 +12,19 @@ ghost use Rattle.dm_dict.specs.Limits.{group_limit};
 ghost use Rattle.dm_dict.specs.Passed.{IsGoodBut, PassesList};
 
 use crate::avps::judge_counted;
-use crate::counts::{FEW_ENTRIES, MANY_ENTRIES, counters, counts_for};
-use crate::entries::keep_bounds;
+use crate::counts::{FEW_ENTRIES, MANY_ENTRIES, counters, long_rule_counters};
+use crate::entries::are_bounds_kept;
 use crate::judge::GROUPS;
 use crate::judged::Judged;
 use crate::linked::{Linked, LinkedRule};
-use crate::passing::{pass_found, pass_row, pass_unknown};
+use crate::passing::{pass_avp_with_row, pass_looked_up_avp, pass_undefined_avp};
 use crate::rules::row_for;
 use dm_wire::AvpsRef;
 use std::alloc::Global;
 
-/// The AVPs from the first on that isn't passed over, since it has no definition and wants none; those before it are
-/// counted.
+/// The AVPs from the first on that isn't passed as one without a definition; those before it are counted.
 #[inline(always)]
-fn pass_over<'a>(
+fn pass_undefined_avps<'a>(
     dictionary: &Linked,
     rule: LinkedRule<'_>,
     list: AvpsRef<'a>,
@@ -40,7 +39,7 @@ fn pass_over<'a>(
 {
     let mut behind = list;
     while let Some((avp, rest)) = behind.split_first() {
-        if !pass_unknown(dictionary, rule, avp, counts) {
+        if !pass_undefined_avp(dictionary, rule, avp, counts) {
             return behind;
         }
         behind = rest;
@@ -51,7 +50,7 @@ fn pass_over<'a>(
 /// The AVPs from the first on that isn't seen to be good by its row; those before it are counted.
 // (A loop of its own, so that what it works with stays in the processor's registers.)
 #[inline(always)]
-fn pass_rows<'a>(
+fn pass_avps_with_rows<'a>(
     dictionary: &Linked,
     rule: LinkedRule<'_>,
     list: AvpsRef<'a>,
@@ -69,7 +68,7 @@ fn pass_rows<'a>(
         let Some((at, row)) = row_for(dictionary, rule, avp) else {
             return left;
         };
-        if !pass_row(dictionary, at, row, avp, GROUPS, counts) {
+        if !pass_avp_with_row(dictionary, at, row, avp, GROUPS, counts) {
             return left;
         }
         left = rest;
@@ -77,10 +76,10 @@ fn pass_rows<'a>(
     left
 }
 
-/// The AVPs behind the first, where it has no row and is seen to be good, and behind those that are passed over with
-/// it; they are counted.
+/// The AVPs behind the first, where it has no row and is seen to be good, and behind those without a definition that
+/// follow it; they are counted.
 #[inline(always)]
-fn pass_other<'a>(
+fn pass_avps_without_row<'a>(
     dictionary: &Linked,
     rule: LinkedRule<'_>,
     list: AvpsRef<'a>,
@@ -97,11 +96,11 @@ fn pass_other<'a>(
     let Some((avp, rest)) = list.split_first() else {
         return None;
     };
-    if pass_unknown(dictionary, rule, avp, counts) {
-        return Some(pass_over(dictionary, rule, rest, counts));
+    if pass_undefined_avp(dictionary, rule, avp, counts) {
+        return Some(pass_undefined_avps(dictionary, rule, rest, counts));
     }
     if row_for(dictionary, rule, avp).is_none()
-        && pass_found(dictionary, rule, avp, GROUPS, counts)
+        && pass_looked_up_avp(dictionary, rule, avp, GROUPS, counts)
     {
         Some(rest)
     } else {
@@ -111,7 +110,7 @@ fn pass_other<'a>(
 
 /// The AVPs of a message from the first on that isn't seen to be good under the rule; those before it are counted.
 #[inline(always)]
-fn pass_front<'a>(
+fn pass_good_avps<'a>(
     dictionary: &Linked,
     rule: LinkedRule<'_>,
     list: AvpsRef<'a>,
@@ -126,8 +125,8 @@ fn pass_front<'a>(
 {
     let mut left = list;
     'others: loop {
-        let from = pass_rows(dictionary, rule, left, counts);
-        let Some(rest) = pass_other(dictionary, rule, from, counts) else {
+        let from = pass_avps_with_rows(dictionary, rule, left, counts);
+        let Some(rest) = pass_avps_without_row(dictionary, rule, from, counts) else {
             return from;
         };
         left = rest;
@@ -136,7 +135,7 @@ fn pass_front<'a>(
 
 /// The first fault of AVPs under the rule, by these counters, all zero, for the first of its entries.
 #[inline(always)]
-fn judge_each<'a>(
+fn judge_with_counters<'a>(
     dictionary: &Linked,
     rule: LinkedRule<'_>,
     list: AvpsRef<'a>,
@@ -151,8 +150,8 @@ fn judge_each<'a>(
         → shown result ≡ first (list_faults group_limit dictionary.now.tables.avps.items rule.entry.entries.now l) }
     ensures missing { finds_missing result ≡ false }
 {
-    let left = pass_front(dictionary, rule, list, counts);
-    if left.split_first().is_none() && keep_bounds(rule, counts) {
+    let left = pass_good_avps(dictionary, rule, list, counts);
+    if left.split_first().is_none() && are_bounds_kept(rule, counts) {
         return Judged::Good;
     }
     judge_counted(dictionary, rule, list, left, GROUPS, alloc, counts)
@@ -161,7 +160,7 @@ fn judge_each<'a>(
 /// The same under a rule of many entries, by counters on the stack.
 // (A function of its own in the machine's code too, as the next one: its locals would be zeroed at its caller's entry.)
 #[inline(never)]
-fn judge_by_many<'a>(
+fn judge_avps_on_stack<'a>(
     dictionary: &Linked,
     rule: LinkedRule<'_>,
     list: AvpsRef<'a>,
@@ -175,12 +174,12 @@ fn judge_by_many<'a>(
     ensures missing { finds_missing result ≡ false }
 {
     let mut counts = counters::<MANY_ENTRIES>();
-    judge_each(dictionary, rule, list, alloc, &mut counts)
+    judge_with_counters(dictionary, rule, list, alloc, &mut counts)
 }
 
 /// The same under a rule of any length; by a counter for each entry of a long one where there is memory for that.
 #[inline(never)]
-fn judge_by_any<'a>(
+fn judge_long_rule<'a>(
     dictionary: &Linked,
     rule: LinkedRule<'_>,
     list: AvpsRef<'a>,
@@ -193,11 +192,11 @@ fn judge_by_any<'a>(
         → shown result ≡ first (list_faults group_limit dictionary.now.tables.avps.items rule.entry.entries.now l) }
     ensures missing { finds_missing result ≡ false }
 {
-    let Some(mut counts) = counts_for(alloc, rule.entries) else {
-        return judge_by_many(dictionary, rule, list, alloc);
+    let Some(mut counts) = long_rule_counters(alloc, rule.entries) else {
+        return judge_avps_on_stack(dictionary, rule, list, alloc);
     };
     let room = counts.as_mut_slice();
-    let judged = judge_each(dictionary, rule, list, alloc, room);
+    let judged = judge_with_counters(dictionary, rule, list, alloc, room);
     drop(counts);
     judged
 }
@@ -218,8 +217,8 @@ pub(crate) fn judge_avps<'a>(
     ensures missing { finds_missing result ≡ false }
 {
     if rule.entries.as_slice().len() > FEW_ENTRIES {
-        return judge_by_any(dictionary, rule, list, alloc);
+        return judge_long_rule(dictionary, rule, list, alloc);
     }
     let mut counts = counters::<FEW_ENTRIES>();
-    judge_each(dictionary, rule, list, alloc, &mut counts)
+    judge_with_counters(dictionary, rule, list, alloc, &mut counts)
 }

@@ -43,11 +43,11 @@ fn locate_message<'a>(
     let failed = Failed::Nothing;
     let Some(LinkedCommand { def, links }) = command_for(dictionary, header) else {
         let code = COMMAND_UNSUPPORTED;
-        return findings.put(path, Fault { code, failed });
+        return findings.add_fault(path, Fault { code, failed });
     };
     if has_wrong_bits(header) {
         let code = INVALID_HDR_BITS;
-        findings.put(path, Fault { code, failed })?;
+        findings.add_fault(path, Fault { code, failed })?;
     }
     let rule = LinkedRule {
         entries: &def.rule,
@@ -58,7 +58,7 @@ fn locate_message<'a>(
 
 /// Lists what is wrong with a message of this header and these AVPs, in no groups. It wants memory only where something
 /// is.
-pub(crate) fn find<'a>(
+pub(crate) fn find_faults<'a>(
     alloc: Global,
     findings: &mut Findings<'a>,
     path: Option<&Path>,
@@ -81,7 +81,7 @@ pub(crate) fn find<'a>(
 }
 
 /// All faults of a message of this header and these AVPs with their paths, in order.
-fn located<'a>(
+fn collect_located<'a>(
     alloc: Global,
     dictionary: &Linked,
     header: &Header,
@@ -96,7 +96,7 @@ fn located<'a>(
 {
     let mut findings = Findings::new(alloc);
     let top = Path::top();
-    let done = find(alloc, &mut findings, Some(&top), dictionary, header, list);
+    let done = find_faults(alloc, &mut findings, Some(&top), dictionary, header, list);
     let Findings { faults, located } = findings;
     drop(faults);
     done.and(Ok(located))
@@ -117,7 +117,7 @@ fn located_spelled<'a>(
         → has_none (faults (defined dictionary.now.tables) (record { header = header.now; avps = l })) ≡ false) }
 {
     members_spell();
-    located(alloc, dictionary, header, AvpsRef::Spelled(octets))
+    collect_located(alloc, dictionary, header, AvpsRef::Spelled(octets))
 }
 
 impl Dictionary {
@@ -137,7 +137,7 @@ impl Dictionary {
         ensures memory { OnErr result (has_none (faults self.now message.now) ≡ false) }
     {
         let list = AvpsRef::Held(message.avps.as_slice());
-        located(alloc, &self.linked, &message.header, list)
+        collect_located(alloc, &self.linked, &message.header, list)
     }
 
     /// All that is wrong with the message where it lies: the same as `located` of the decoded message.

@@ -17,7 +17,7 @@ use dm_wire::AvpRef;
 use indexmap::IndexMap;
 
 /// Counts one more of a code and vendor, and tells how many there are.
-fn count_one(
+fn count_code(
     numbers: &mut IndexMap<(u32, Option<u32>), usize>,
     code: u32,
     vendor: Option<u32>,
@@ -52,7 +52,7 @@ fn is_group_type(dictionary: &Linked, place: Option<usize>) -> bool
 }
 
 /// The number of an AVP, whose definition has this place, behind those that were counted, where a path wants it.
-pub(crate) fn number<'a>(
+pub(crate) fn count_occurrence<'a>(
     numbers: &mut IndexMap<(u32, Option<u32>), usize>,
     path: Option<&Path>,
     dictionary: &Linked,
@@ -75,7 +75,7 @@ pub(crate) fn number<'a>(
         return Ok(0);
     };
     if is_group_type(dictionary, place) {
-        return count_one(numbers, avp.code, avp.vendor);
+        return count_code(numbers, avp.code, avp.vendor);
     }
     Ok(0)
 }

@@ -19,12 +19,12 @@ ghost use Rattle.dm_tables.specs.declared.def.AvpDef.{AvpDef};
 ghost use Rattle.dm_tables.specs.declared.rule.Entry.{Entry};
 
 use crate::codes::FAILED_AVP;
-use crate::counts::{FEW_ENTRIES, MANY_ENTRIES, count_one, counters};
+use crate::counts::{FEW_ENTRIES, MANY_ENTRIES, count_at_entry, counters};
 use crate::data::passes_data;
-use crate::entries::keep_bounds;
+use crate::entries::are_bounds_kept;
 use crate::linked::{Linked, LinkedRule};
 use crate::rows::Row;
-use crate::rules::{allows_at, look_up_marked, row_for, stand};
+use crate::rules::{allows_at, look_up_by_marks, place_and_entry, row_for};
 use byteorder::{BigEndian, ByteOrder};
 use dm_tables::Rule;
 use dm_value::AvpType;
@@ -69,7 +69,7 @@ fn passes_avp(
 /// Whether nothing is wrong with octets of the definition at the place, which is that of an Enumerated.
 // (A function of its own in the machine's code too: a definition is looked at where it has a list alone.)
 #[inline(never)]
-fn passes_listed(dictionary: &Linked, place: usize, octets: &[u8]) -> bool
+fn passes_enumerated(dictionary: &Linked, place: usize, octets: &[u8]) -> bool
     requires within { place < length dictionary.now.tables.avps.items }
     requires kind { (d : AvpDef) → slice_get dictionary.now.tables.avps.items place ≡ Some d → d.kind ≡ Enumerated }
     ensures { (d : AvpDef) (a : Avp) (group : List AFault) → slice_get dictionary.now.tables.avps.items place ≡ Some d
@@ -82,7 +82,7 @@ fn passes_listed(dictionary: &Linked, place: usize, octets: &[u8]) -> bool
 /// Whether the definition at the place is that of Failed-AVP, whose data isn't read, so that nothing is wrong with it.
 // (A function of its own in the machine's code too: it's wanted where something else is wrong.)
 #[inline(never)]
-fn is_failed_at(dictionary: &Linked, place: usize) -> bool
+fn is_failed_avp_at(dictionary: &Linked, place: usize) -> bool
     requires { place < length dictionary.now.tables.avps.items }
     ensures { (groups : List Entry → Avp → List AFault) (a : Avp) → slice_get dictionary.now.tables.avps.items place
         ≡ definition dictionary.now.tables.avps.items a → result ≡ true
@@ -117,18 +117,20 @@ fn passes_defined(
             entries: &dictionary.def_at(place).rule,
             links: dictionary.links_at(place),
         };
-        return passes_group(dictionary, rule, avp.bytes, depth) || is_failed_at(dictionary, place);
+        return passes_group(dictionary, rule, avp.bytes, depth)
+            || is_failed_avp_at(dictionary, place);
     }
     if let AvpType::Enumerated = kind {
-        return passes_listed(dictionary, place, avp.bytes) || is_failed_at(dictionary, place);
+        return passes_enumerated(dictionary, place, avp.bytes)
+            || is_failed_avp_at(dictionary, place);
     }
-    passes_data(kind, avp.bytes) || is_failed_at(dictionary, place)
+    passes_data(kind, avp.bytes) || is_failed_avp_at(dictionary, place)
 }
 
 /// Whether nothing is wrong with an AVP that stands under the rule at this entry, which has this row. If so it is
 /// counted.
 #[inline(always)]
-pub(crate) fn pass_row(
+pub(crate) fn pass_avp_with_row(
     dictionary: &Linked,
     at: usize,
     row: Row,
@@ -151,13 +153,13 @@ pub(crate) fn pass_row(
     if !passes_defined(dictionary, kind, place, avp, depth) {
         return false;
     }
-    count_one(counts, 0, Some(at));
+    count_at_entry(counts, 0, Some(at));
     true
 }
 
 /// The same of an AVP that has no definition, as the marks tell at once, and wants none: it isn't mandatory.
 #[inline(always)]
-pub(crate) fn pass_unknown(
+pub(crate) fn pass_undefined_avp(
     dictionary: &Linked,
     rule: LinkedRule<'_>,
     avp: AvpRef<'_>,
@@ -173,15 +175,15 @@ pub(crate) fn pass_unknown(
     if avp.mandatory || !dictionary.is_unmarked(avp.code) {
         return false;
     }
-    let (_, any) = stand(&dictionary.tables, rule, None, avp);
-    count_one(counts, 0, any);
+    let (_, any) = place_and_entry(&dictionary.tables, rule, None, avp);
+    count_at_entry(counts, 0, any);
     true
 }
 
 /// The same of an AVP that stands under the rule where it is looked up.
 #[cycle(passing)]
 #[inline(always)]
-pub(crate) fn pass_found(
+pub(crate) fn pass_looked_up_avp(
     dictionary: &Linked,
     rule: LinkedRule<'_>,
     avp: AvpRef<'_>,
@@ -202,7 +204,7 @@ pub(crate) fn pass_found(
         protected,
         bytes,
     } = avp;
-    pass_parts(
+    pass_avp_parts(
         dictionary, rule, code, vendor, mandatory, protected, bytes, depth, counts,
     )
 }
@@ -212,7 +214,7 @@ pub(crate) fn pass_found(
 // row, and the others' loop neither writes theirs down nor keeps registers for these.)
 #[cycle(passing)]
 #[inline(never)]
-fn pass_parts(
+fn pass_avp_parts(
     dictionary: &Linked,
     rule: LinkedRule<'_>,
     code: u32,
@@ -238,11 +240,11 @@ fn pass_parts(
         protected,
         bytes,
     };
-    let (place, at) = look_up_marked(dictionary, rule, avp);
+    let (place, at) = look_up_by_marks(dictionary, rule, avp);
     if !passes_avp(dictionary, rule.entries, place, at, avp, depth) {
         return false;
     }
-    count_one(counts, 0, at);
+    count_at_entry(counts, 0, at);
     true
 }
 
@@ -265,7 +267,7 @@ fn passes_group(dictionary: &Linked, rule: LinkedRule<'_>, octets: &[u8], depth:
 // (A loop of its own, so that what it works with stays in the processor's registers.)
 #[cycle(passing)]
 #[inline(always)]
-fn pass_rows<'a>(
+fn pass_octets_with_rows<'a>(
     dictionary: &Linked,
     rule: LinkedRule<'_>,
     octets: &'a [u8],
@@ -284,7 +286,7 @@ fn pass_rows<'a>(
         let Some((entry, row)) = row_for(dictionary, rule, avp) else {
             return Some(left);
         };
-        count_one(counts, 0, Some(entry));
+        count_at_entry(counts, 0, Some(entry));
         if !passes_defined(dictionary, row.kind, row.place, avp, depth) {
             return None;
         }
@@ -296,7 +298,7 @@ fn pass_rows<'a>(
 /// The octets behind the first AVP, which has no row, if it is seen to be good; it is counted.
 #[cycle(passing)]
 #[inline(always)]
-fn pass_other<'a>(
+fn pass_octets_without_row<'a>(
     dictionary: &Linked,
     rule: LinkedRule<'_>,
     octets: &'a [u8],
@@ -313,10 +315,10 @@ fn pass_other<'a>(
     let Some((avp, size)) = first_avp(octets) else {
         return None;
     };
-    if pass_unknown(dictionary, rule, avp, counts) {
+    if pass_undefined_avp(dictionary, rule, avp, counts) {
         return Some(&octets[size..]);
     }
-    if pass_found(dictionary, rule, avp, depth, counts) {
+    if pass_looked_up_avp(dictionary, rule, avp, depth, counts) {
         Some(&octets[size..])
     } else {
         None
@@ -327,7 +329,7 @@ fn pass_other<'a>(
 /// counted.
 #[cycle(passing)]
 #[inline(always)]
-fn pass_each(
+fn pass_octets(
     dictionary: &Linked,
     rule: LinkedRule<'_>,
     octets: &[u8],
@@ -345,11 +347,11 @@ fn pass_each(
         × IsCounted dictionary.now.tables.avps.items rule.entry.entries.now l 0 counts.new }
 {
     let mut left = octets;
-    while let Some(behind) = pass_rows(dictionary, rule, left, depth, counts) {
+    while let Some(behind) = pass_octets_with_rows(dictionary, rule, left, depth, counts) {
         if behind.is_empty() {
             return true;
         }
-        let Some(rest) = pass_other(dictionary, rule, behind, depth, counts) else {
+        let Some(rest) = pass_octets_without_row(dictionary, rule, behind, depth, counts) else {
             return false;
         };
         left = rest;
@@ -361,7 +363,7 @@ fn pass_each(
 /// is one for each of its entries.
 #[cycle(passing)]
 #[inline(always)]
-fn passes_counted(
+fn passes_with_counters(
     dictionary: &Linked,
     rule: LinkedRule<'_>,
     octets: &[u8],
@@ -375,12 +377,12 @@ fn passes_counted(
     ensures { result ≡ true → (l : List Avp) × SpellsList l octets.now
         × (None ≡ first (list_faults depth dictionary.now.tables.avps.items rule.entry.entries.now l)) }
 {
-    pass_each(dictionary, rule, octets, depth, counts) && keep_bounds(rule, counts)
+    pass_octets(dictionary, rule, octets, depth, counts) && are_bounds_kept(rule, counts)
 }
 
 /// The same under a rule of few entries.
 #[cycle(passing)]
-fn passes_few(dictionary: &Linked, rule: LinkedRule<'_>, octets: &[u8], depth: u32) -> bool
+fn passes_few_entries(dictionary: &Linked, rule: LinkedRule<'_>, octets: &[u8], depth: u32) -> bool
     requires linked { IsLinked dictionary.now }
     requires fit { IsFit dictionary.now.tables.avps.items }
     requires rule { IsRule dictionary.now.tables.avps.items rule }
@@ -388,14 +390,14 @@ fn passes_few(dictionary: &Linked, rule: LinkedRule<'_>, octets: &[u8], depth: u
         × (None ≡ first (list_faults depth dictionary.now.tables.avps.items rule.entry.entries.now l)) }
 {
     let mut counts = counters::<FEW_ENTRIES>();
-    passes_counted(dictionary, rule, octets, depth, &mut counts)
+    passes_with_counters(dictionary, rule, octets, depth, &mut counts)
 }
 
 /// The same under a rule of many entries.
 // (A function of its own in the machine's code too: its counters would be zeroed at its caller's entry.)
 #[cycle(passing)]
 #[inline(never)]
-fn passes_many(dictionary: &Linked, rule: LinkedRule<'_>, octets: &[u8], depth: u32) -> bool
+fn passes_many_entries(dictionary: &Linked, rule: LinkedRule<'_>, octets: &[u8], depth: u32) -> bool
     requires linked { IsLinked dictionary.now }
     requires fit { IsFit dictionary.now.tables.avps.items }
     requires rule { IsRule dictionary.now.tables.avps.items rule }
@@ -403,7 +405,7 @@ fn passes_many(dictionary: &Linked, rule: LinkedRule<'_>, octets: &[u8], depth: 
         × (None ≡ first (list_faults depth dictionary.now.tables.avps.items rule.entry.entries.now l)) }
 {
     let mut counts = counters::<MANY_ENTRIES>();
-    passes_counted(dictionary, rule, octets, depth, &mut counts)
+    passes_with_counters(dictionary, rule, octets, depth, &mut counts)
 }
 
 /// Whether the octets are AVPs and nothing is wrong with them under the rule, where so many groups may stand inside
@@ -418,8 +420,8 @@ fn passes_members(dictionary: &Linked, rule: LinkedRule<'_>, octets: &[u8], dept
 {
     let size = rule.entries.as_slice().len();
     if size <= FEW_ENTRIES {
-        passes_few(dictionary, rule, octets, depth)
+        passes_few_entries(dictionary, rule, octets, depth)
     } else {
-        size <= MANY_ENTRIES && passes_many(dictionary, rule, octets, depth)
+        size <= MANY_ENTRIES && passes_many_entries(dictionary, rule, octets, depth)
     }
 }

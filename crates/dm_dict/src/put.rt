@@ -9,7 +9,7 @@ use crate::judged::Failed;
 use dm_value::NoMemory;
 
 /// Lists a fault behind the others.
-pub(crate) fn put<'a>(
+pub(crate) fn push_fault<'a>(
     faults: &mut Vec<Fault<'a>>,
     code: u32,
     failed: Failed<'a>,

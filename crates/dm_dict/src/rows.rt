@@ -36,14 +36,14 @@ impl Row {
 
     /// Whether the AVPs of this code and vendor are those that the entry names.
     #[inline(always)]
-    pub(crate) fn is_of(&self, code: u32, vendor: Option<u32>) -> bool
+    pub(crate) fn names_code(&self, code: u32, vendor: Option<u32>) -> bool
         ensures { result ≡ names_avps code vendor self.now }
     {
         self.linked && code == self.code && vendor == self.vendor
     }
 }
 
-/// The row of an entry that has the link, behind the others.
+/// Adds the row of an entry that has this link.
 fn push_row(
     rows: &mut Vec<Row>,
     avps: &[AvpDef],

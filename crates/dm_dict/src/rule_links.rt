@@ -60,8 +60,8 @@ fn count_groups(avps: &[AvpDef]) -> usize
     count
 }
 
-/// The links of a rule without entries, where nothing is kept.
-fn begin(alloc: Global, kept: &mut Vec<Links>) -> Result<(), NoMemory>
+/// Keeps the links of a rule without entries, where nothing is kept yet.
+fn keep_empty_links(alloc: Global, kept: &mut Vec<Links>) -> Result<(), NoMemory>
     ensures begun { OnOk result (kept.new.items ≡ begun_links kept.old.items) }
     ensures same { OnErr result (kept.new.items ≡ kept.old.items) }
 {
@@ -95,16 +95,16 @@ impl RuleLinks {
     fn push_none(&mut self, alloc: Global) -> Result<(), NoMemory>
         ensures { OnOk result (self.new ≡ self.old ++ no_links ∷ []) }
     {
-        begin(alloc, &mut self.kept)?;
+        keep_empty_links(alloc, &mut self.kept)?;
         self.places.push(0)?;
         Ok(())
     }
 
     /// Links behind the others.
-    fn keep(&mut self, alloc: Global, links: Links) -> Result<(), NoMemory>
+    fn push_links(&mut self, alloc: Global, links: Links) -> Result<(), NoMemory>
         ensures { OnOk result (self.new ≡ self.old ++ links ∷ []) }
     {
-        begin(alloc, &mut self.kept)?;
+        keep_empty_links(alloc, &mut self.kept)?;
         self.kept.push(links)?;
         self.places.push(self.kept.len() - 1)?;
         Ok(())
@@ -126,7 +126,7 @@ impl RuleLinks {
             self.push_none(alloc)
         } else {
             let links = Links::of_rule(alloc, tables, guesses, rule)?;
-            self.keep(alloc, links)
+            self.push_links(alloc, links)
         }
     }
 

@@ -38,7 +38,7 @@ pub(crate) fn allows(rule: &Rule, at: Option<usize>) -> bool
 /// The place of the AVP's definition, and where under the rule the AVP stands: at the entry that is linked to its
 /// definition, else at `AVP`. An AVP without definition stands at `AVP`.
 #[inline(always)]
-pub(crate) fn stand(
+pub(crate) fn place_and_entry(
     tables: &Tables,
     rule: LinkedRule<'_>,
     place: Option<usize>,
@@ -64,7 +64,7 @@ pub(crate) fn stand(
 
 /// Where the definition of the AVP stands among the AVPs, and where under the rule the AVP stands.
 #[inline(always)]
-pub(crate) fn look_up(
+pub(crate) fn look_up_avp(
     tables: &Tables,
     rule: LinkedRule<'_>,
     avp: AvpRef<'_>,
@@ -81,12 +81,12 @@ pub(crate) fn look_up(
         → is_at result.1 i ≡ counts rule.entry.entries.now e (definition tables.now.avps.items (avp_of avp.entry)) }
 {
     let place = tables.place_by_code(avp.code, avp.vendor);
-    stand(tables, rule, place, avp)
+    place_and_entry(tables, rule, place, avp)
 }
 
 /// The same, by the marks of the codes first.
 #[inline(always)]
-pub(crate) fn look_up_marked(
+pub(crate) fn look_up_by_marks(
     dictionary: &Linked,
     rule: LinkedRule<'_>,
     avp: AvpRef<'_>,
@@ -106,7 +106,7 @@ pub(crate) fn look_up_marked(
     ensures inside { IfSome result.1 (λ i. i < length rule.entry.entries.now) }
 {
     let place = dictionary.place_by_code(avp.code, avp.vendor);
-    stand(&dictionary.tables, rule, place, avp)
+    place_and_entry(&dictionary.tables, rule, place, avp)
 }
 
 /// The entry under which the AVP stands, with its row, where it is the one at the seat of its code.
@@ -137,7 +137,7 @@ pub(crate) fn counts_avp(tables: &Tables, rule: LinkedRule<'_>, at: usize, avp: 
     ensures { (e : Entry) → e ≡ slice_index_or rule.entry.entries.now at e
         → result ≡ counts rule.entry.entries.now e (definition tables.now.avps.items (avp_of avp.entry)) }
 {
-    let (_, place) = look_up(tables, rule, avp);
+    let (_, place) = look_up_avp(tables, rule, avp);
     match place {
         Some(place) => place == at,
         None => false,

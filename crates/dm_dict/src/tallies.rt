@@ -11,7 +11,7 @@ ghost use Rattle.dm_dict.specs.Rules.{definition, is_at, counts};
 ghost use Rattle.dm_dict.specs.Tallies.{IsTally, AreTallied};
 
 use crate::linked::LinkedRule;
-use crate::rules::look_up;
+use crate::rules::look_up_avp;
 use dm_tables::{Entry, Rule, Tables};
 use dm_value::NoMemory;
 use dm_wire::{AvpRef, AvpsRef};
@@ -30,7 +30,7 @@ pub(crate) struct Tally<'a> {
 
 impl<'a> Tally<'a> {
     /// The tally of an entry that has counted none.
-    fn of(entry: &Entry) -> Tally<'a>
+    fn at_start(entry: &Entry) -> Tally<'a>
         ensures { (l : List Avp) → IsTally entry.now l l result }
     {
         Tally {
@@ -41,7 +41,7 @@ impl<'a> Tally<'a> {
     }
 
     /// Counts an AVP.
-    fn count(&mut self, avp: AvpRef<'a>)
+    fn count_avp(&mut self, avp: AvpRef<'a>)
         ensures { (e : Entry) (l m : List Avp) → IsTally e l (avp_of avp.entry ∷ m) self.old → IsTally e l m self.new }
     {
         self.lack = self.lack.saturating_sub(1);
@@ -62,13 +62,13 @@ fn empty_tallies<'a>(alloc: Global, rule: &Rule) -> Result<Vec<Tally<'a>>, NoMem
     let entries = rule.as_slice();
     let mut tallies = Vec::with_capacity(alloc, entries.len())?;
     for entry in entries {
-        tallies.push(Tally::of(entry))?;
+        tallies.push(Tally::at_start(entry))?;
     }
     Ok(tallies)
 }
 
 /// Counts an AVP that stands at this place.
-fn count_at<'a>(tallies: &mut [Tally<'a>], at: Option<usize>, avp: AvpRef<'a>)
+fn tally_at_entry<'a>(tallies: &mut [Tally<'a>], at: Option<usize>, avp: AvpRef<'a>)
     ensures { (avps : List AvpDef) (rule : List Entry) (l m : List Avp)
         → ((i : ℕ) (e : Entry) → i < length rule → e ≡ slice_index_or rule i e
         → is_at at i ≡ counts rule e (definition avps (avp_of avp.entry)))
@@ -76,13 +76,13 @@ fn count_at<'a>(tallies: &mut [Tally<'a>], at: Option<usize>, avp: AvpRef<'a>)
 {
     if let Some(at) = at {
         if at < tallies.len() {
-            tallies[at].count(avp);
+            tallies[at].count_avp(avp);
         }
     }
 }
 
 /// Counts the AVPs of the list.
-fn count_list<'a>(
+fn tally_avps<'a>(
     tallies: &mut [Tally<'a>],
     tables: &Tables,
     rule: LinkedRule<'_>,
@@ -97,8 +97,8 @@ fn count_list<'a>(
 {
     let mut left = list;
     while let Some((avp, rest)) = left.split_first() {
-        let (_, at) = look_up(tables, rule, avp);
-        count_at(tallies, at, avp);
+        let (_, at) = look_up_avp(tables, rule, avp);
+        tally_at_entry(tallies, at, avp);
         left = rest;
     }
 }
@@ -118,6 +118,6 @@ pub(crate) fn tallies_of<'a>(
         → AreTallied tables.now.avps.items rule.entry.entries.now l [] tallies.items) }
 {
     let mut tallies = empty_tallies(alloc, rule.entries)?;
-    count_list(tallies.as_mut_slice(), tables, rule, list);
+    tally_avps(tallies.as_mut_slice(), tables, rule, list);
     Ok(tallies)
 }

@@ -16,7 +16,7 @@ ghost use Rattle.dm_dict.specs.Found.{finds_missing};
 ghost use Rattle.dm_dict.specs.Judgement.{shown};
 ghost use Rattle.dm_dict.specs.Limits.{middle_window, window};
 
-use crate::counts::{MANY_ENTRIES, MIDDLE_WINDOW, SHORT_WINDOW, WINDOW, count_from, counters};
+use crate::counts::{MANY_ENTRIES, MIDDLE_WINDOW, SHORT_WINDOW, WINDOW, count_avps_from, counters};
 use crate::entries::judge_entry;
 use crate::judged::Judged;
 use crate::linked::LinkedRule;
@@ -114,14 +114,14 @@ fn judge_recounted<'a>(
         (drop (from + length counts.old) rule.entry.entries.now))) }
     ensures missing { finds_missing result ≡ false }
 {
-    count_from(tables, rule, from, list, counts);
+    count_avps_from(tables, rule, from, list, counts);
     judge_window(tables, rule, from, counts, list)
 }
 
 /// The first fault of a window of so many entries from `from` on.
 // (A function of its own in the machine's code too: its counters are cleared at each call.)
 #[inline(never)]
-fn judge_next<'a, const SIZE: usize>(
+fn judge_sized_window<'a, const SIZE: usize>(
     tables: &Tables,
     rule: LinkedRule<'_>,
     from: usize,
@@ -145,7 +145,7 @@ fn judge_next<'a, const SIZE: usize>(
 
 /// The first fault of the last entries, those from `from` on, where they are no more than so many.
 #[inline(always)]
-fn judge_last<'a, const SIZE: usize>(
+fn judge_last_window<'a, const SIZE: usize>(
     tables: &Tables,
     rule: LinkedRule<'_>,
     from: usize,
@@ -162,12 +162,12 @@ fn judge_last<'a, const SIZE: usize>(
         (drop from rule.entry.entries.now)) }
     ensures missing { finds_missing result ≡ false }
 {
-    judge_next::<SIZE>(tables, rule, from, list)
+    judge_sized_window::<SIZE>(tables, rule, from, list)
 }
 
 /// The first fault of the last entries, those from `from` on, where they are no more than a middle window: by the
 /// fewest counters that do. (So a rule has no more counters cleared than four times its entries.)
-fn judge_rest<'a>(
+fn judge_last_entries<'a>(
     tables: &Tables,
     rule: LinkedRule<'_>,
     from: usize,
@@ -185,16 +185,16 @@ fn judge_rest<'a>(
 {
     let left = rule.entries.as_slice().len() - from;
     if left > SHORT_WINDOW {
-        judge_last::<MIDDLE_WINDOW>(tables, rule, from, list)
+        judge_last_window::<MIDDLE_WINDOW>(tables, rule, from, list)
     } else if left > MANY_ENTRIES {
-        judge_last::<SHORT_WINDOW>(tables, rule, from, list)
+        judge_last_window::<SHORT_WINDOW>(tables, rule, from, list)
     } else {
-        judge_last::<MANY_ENTRIES>(tables, rule, from, list)
+        judge_last_window::<MANY_ENTRIES>(tables, rule, from, list)
     }
 }
 
 /// The first fault of the entries from `start` on. Each window of them begins at an entry that has a bound.
-fn judge_further<'a>(
+fn judge_entries_from<'a>(
     tables: &Tables,
     rule: LinkedRule<'_>,
     start: usize,
@@ -211,14 +211,14 @@ fn judge_further<'a>(
     let size = rule.entries.as_slice().len();
     let mut from = next_bounded(rule.entries, start);
     while from < size && size - from > MIDDLE_WINDOW {
-        match judge_next::<WINDOW>(tables, rule, from, list) {
+        match judge_sized_window::<WINDOW>(tables, rule, from, list) {
             Judged::Good => {}
             Judged::Bad { code, failed } => return Judged::Bad { code, failed },
         }
         from = next_bounded(rule.entries, window_end(size, from, WINDOW));
     }
     if from < size {
-        judge_rest(tables, rule, from, list)
+        judge_last_entries(tables, rule, from, list)
     } else {
         Judged::Good
     }
@@ -241,7 +241,7 @@ pub(crate) fn judge_entries<'a>(
     ensures missing { finds_missing result ≡ false }
 {
     match judge_window(tables, rule, 0, counts, list) {
-        Judged::Good => judge_further(tables, rule, counts.len(), list),
+        Judged::Good => judge_entries_from(tables, rule, counts.len(), list),
         Judged::Bad { code, failed } => Judged::Bad { code, failed },
     }
 }

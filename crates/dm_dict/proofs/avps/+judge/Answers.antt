@@ -36,19 +36,19 @@ judge_counted-loop-avp-preserved t c =
     let rule = c.args.rule.entries.now in
     let a = avp_of c.in-Some.avp in
     let G = group_faults c.args.depth avps in
-    let allowed = c.allows-allowed.ensures ∙ ap allows c.look_up_marked-place.ensures.entry in
+    let allowed = c.allows-allowed.ensures ∙ ap allows c.look_up_by_marks-place.ensures.entry in
     let good = looked_up G _ _ a _ _ allowed c.in-Good.ensures.fault in
     λ all h.
     let (m, listed, before) = c.loop-avp.invariant all h in
     let (k, is, behind) = c.in-Some.ensures.parts m listed in (
       k,
       behind,
-      one_passed c.args.depth avps rule all m k a _ _ _ before is good c.count_one.ensures.size
-          c.count_one.ensures.counted c.look_up_marked-place.ensures.counts,
+      one_passed c.args.depth avps rule all m k a _ _ _ before is good c.count_at_entry.ensures.size
+          c.count_at_entry.ensures.counted c.look_up_by_marks-place.ensures.counts,
     )
 
-pub judge_many-judge_counted-requires : goal.judge_many-judge_counted-requires
-judge_many-judge_counted-requires t c = (
+pub judge_list_on_stack-judge_counted-requires : goal.judge_list_on_stack-judge_counted-requires
+judge_list_on_stack-judge_counted-requires t c = (
   omega arith,
   (
     c.requires.linked,

@@ -7,8 +7,8 @@ use Rattle.dm_dict.proofs.avps.+judge.Given as goal
 abbrev pub decreases-judge_list : goal.decreases-judge_list
 decreases-judge_list l = 5 * l.depth + 4
 
-abbrev pub decreases-judge_many : goal.decreases-judge_many
-decreases-judge_many l = 5 * l.depth + 3
+abbrev pub decreases-judge_list_on_stack : goal.decreases-judge_list_on_stack
+decreases-judge_list_on_stack l = 5 * l.depth + 3
 
 abbrev pub decreases-judge_counted : goal.decreases-judge_counted
 decreases-judge_counted l = 5 * l.depth + 2

@@ -5,12 +5,12 @@ use Rattle.dm_dict.proofs.faults.faults_of_spelled.Goals as goal
 
 pub returns-clause-all : goal.returns-clause-all
 returns-clause-all c =
-    under_ok c.listed.result _ _ (λ listed all l spelled. all l
+    under_ok c.collect_faults.result _ _ (λ listed all l spelled. all l
     ((c.members_spell.ensures c.args.octets.now l (λ i. Fits-lt-pow (c.type_inv.octets i))).1 spelled))
-    c.listed.ensures.all
+    c.collect_faults.ensures.all
 
 pub returns-clause-memory : goal.returns-clause-memory
 returns-clause-memory c =
-    under_err c.listed.result (λ some l spelled. some l
+    under_err c.collect_faults.result (λ some l spelled. some l
     ((c.members_spell.ensures c.args.octets.now l (λ i. Fits-lt-pow (c.type_inv.octets i))).1 spelled))
-    c.listed.ensures.memory
+    c.collect_faults.ensures.memory

@@ -72,7 +72,7 @@ locate_avps-loop-avp-preserved t c = λ all h.
       omega (arith, longer, within, less),
       c.in_ok-nth.ensures.counted p fits numbered,
       located_next path c.args.depth avps rule p m k a c.in_ok-nth.nth c.allows-allowed.result _ _ _ is
-          (c.allows-allowed.ensures ∙ ap allows c.look_up_marked-place.ensures.entry)
+          (c.allows-allowed.ensures ∙ ap allows c.look_up_by_marks-place.ensures.entry)
           (c.in_ok-nth.ensures.nth p fits numbered) c.in_ok-locate_avp.ensures so_far,
     )
 

@@ -13,17 +13,17 @@ use Rattle.dm_dict.proofs.passing.+passing.Goals as goal
 pub passes_defined-returns-else-passes_group : goal.passes_defined-returns-else-passes_group
 passes_defined-returns-else-passes_group t c =
     let groups = group_faults c.args.depth c.args.dictionary.now.tables.avps.items in
-    c.is_failed_at.ensures groups (avp_of c.args.avp) c.requires.def
+    c.is_failed_avp_at.ensures groups (avp_of c.args.avp) c.requires.def
 
-pub passes_defined-returns-else-passes_listed : goal.passes_defined-returns-else-passes_listed
-passes_defined-returns-else-passes_listed t c =
+pub passes_defined-returns-else-passes_enumerated : goal.passes_defined-returns-else-passes_enumerated
+passes_defined-returns-else-passes_enumerated t c =
     let groups = group_faults c.args.depth c.args.dictionary.now.tables.avps.items in
-    c.is_failed_at-else-passes_listed.ensures groups (avp_of c.args.avp) c.requires.def
+    c.is_failed_avp_at-else-passes_enumerated.ensures groups (avp_of c.args.avp) c.requires.def
 
 pub passes_defined-returns-else-passes_data : goal.passes_defined-returns-else-passes_data
 passes_defined-returns-else-passes_data t c =
     let groups = group_faults c.args.depth c.args.dictionary.now.tables.avps.items in
-    c.is_failed_at-else-passes_data.ensures groups (avp_of c.args.avp) c.requires.def
+    c.is_failed_avp_at-else-passes_data.ensures groups (avp_of c.args.avp) c.requires.def
 
 pub passes_defined-passes_group-requires : goal.passes_defined-passes_group-requires
 passes_defined-passes_group-requires t c =
@@ -47,8 +47,8 @@ passes_defined-passes_group-requires t c =
       ),
     )
 
-pub pass_parts-returns-clause-passed : goal.pass_parts-returns-clause-passed
-pass_parts-returns-clause-passed t c = λ yes l m k before is.
+pub pass_avp_parts-returns-clause-passed : goal.pass_avp_parts-returns-clause-passed
+pass_avp_parts-returns-clause-passed t c = λ yes l m k before is.
     let avps = c.args.dictionary.now.tables.avps.items in
     let rule = c.args.rule.entries.now in
     let a : Avp = record {
@@ -58,17 +58,17 @@ pass_parts-returns-clause-passed t c = λ yes l m k before is.
       protected = c.args.protected;
       bytes = c.args.bytes.now;
     } in
-    let allowed = ap allows c.look_up_marked-place.ensures.entry in
+    let allowed = ap allows c.look_up_by_marks-place.ensures.entry in
     let good = looked_up (group_faults c.args.depth avps) _ _ a _ _ allowed
     (c.passes_avp.ensures c.if-not-passes_avp.false) in
-    one_passed c.args.depth avps rule l m k a _ _ _ before is good c.count_one.ensures.size c.count_one.ensures.counted
-    c.look_up_marked-place.ensures.counts
+    one_passed c.args.depth avps rule l m k a _ _ _ before is good c.count_at_entry.ensures.size c.count_at_entry.ensures.counted
+    c.look_up_by_marks-place.ensures.counts
 
-pub pass_rows-loop-avp-init : goal.pass_rows-loop-avp-init
-pass_rows-loop-avp-init t c = ((λ m. m, λ m h. h, λ l m good. good), omega arith)
+pub pass_octets_with_rows-loop-avp-init : goal.pass_octets_with_rows-loop-avp-init
+pass_octets_with_rows-loop-avp-init t c = ((λ m. m, λ m h. h, λ l m good. good), omega arith)
 
-pub pass_rows-loop-avp-preserved : goal.pass_rows-loop-avp-preserved
-pass_rows-loop-avp-preserved t c =
+pub pass_octets_with_rows-loop-avp-preserved : goal.pass_octets_with_rows-loop-avp-preserved
+pass_octets_with_rows-loop-avp-preserved t c =
     let avps = c.args.dictionary.now.tables.avps.items in
     let rule = c.args.rule.entries.now in
     let s = c.loop-avp.left.now in
@@ -83,52 +83,52 @@ pass_rows-loop-avp-preserved t c =
         λ m h. spelled (a ∷ m)
             (take n s, _, rw (take_rest s n) (sym (take-append-drop n s)), c.in-Some.ensures.found, h),
         λ l m before. one_passed c.args.depth avps rule l (a ∷ m) m a _ _ (Some c.in-Some-row_for.entry)
-            (passed l (a ∷ m) before) refl good c.count_one.ensures.size c.count_one.ensures.counted stands.counts,
+            (passed l (a ∷ m) before) refl good c.count_at_entry.ensures.size c.count_at_entry.ensures.counted stands.counts,
       ),
       omega arith,
     )
 
-pub pass_other-returns-then-pass_unknown-clause-passed : goal.pass_other-returns-then-pass_unknown-clause-passed
-pass_other-returns-then-pass_unknown-clause-passed t c =
+pub pass_octets_without_row-returns-then-pass_undefined_avp-clause-passed : goal.pass_octets_without_row-returns-then-pass_undefined_avp-clause-passed
+pass_octets_without_row-returns-then-pass_undefined_avp-clause-passed t c =
     let s = c.args.octets.now in
     let n = c.in-Some.size in
     let a = avp_of c.in-Some.avp in (
       λ m. a ∷ m,
       λ m h. (take n s, _, rw (take_rest s n) (sym (take-append-drop n s)), c.in-Some.ensures.found, h),
-      λ l m before. c.pass_unknown.ensures.passed c.if-pass_unknown.true c.args.depth l (a ∷ m) m before refl,
+      λ l m before. c.pass_undefined_avp.ensures.passed c.if-pass_undefined_avp.true c.args.depth l (a ∷ m) m before refl,
     )
 
-pub pass_other-returns-then-pass_found-clause-passed : goal.pass_other-returns-then-pass_found-clause-passed
-pass_other-returns-then-pass_found-clause-passed t c =
+pub pass_octets_without_row-returns-then-pass_looked_up_avp-clause-passed : goal.pass_octets_without_row-returns-then-pass_looked_up_avp-clause-passed
+pass_octets_without_row-returns-then-pass_looked_up_avp-clause-passed t c =
     let s = c.args.octets.now in
     let n = c.in-Some.size in
     let a = avp_of c.in-Some.avp in (
       λ m. a ∷ m,
       λ m h. (take n s, _, rw (take_rest s n) (sym (take-append-drop n s)), c.in-Some.ensures.found, h),
-      λ l m before. c.pass_found.ensures.passed c.if-pass_found.true l (a ∷ m) m
-          (rw (c.pass_unknown.ensures.same c.if-pass_unknown.false) before) refl,
+      λ l m before. c.pass_looked_up_avp.ensures.passed c.if-pass_looked_up_avp.true l (a ∷ m) m
+          (rw (c.pass_undefined_avp.ensures.same c.if-pass_undefined_avp.false) before) refl,
     )
 
-pub pass_each-loop-behind-init : goal.pass_each-loop-behind-init
-pass_each-loop-behind-init t c = (
+pub pass_octets-loop-behind-init : goal.pass_octets-loop-behind-init
+pass_octets-loop-behind-init t c = (
   λ m. m,
   λ m h. h,
   λ m. none_passed c.args.depth c.args.dictionary.now.tables.avps.items c.args.rule.entries.now m _ c.requires.zero,
 )
 
-pub pass_each-loop-behind-preserved : goal.pass_each-loop-behind-preserved
-pass_each-loop-behind-preserved t c =
+pub pass_octets-loop-behind-preserved : goal.pass_octets-loop-behind-preserved
+pass_octets-loop-behind-preserved t c =
     let (all, spelled, before) = c.loop-behind.invariant in
     let (rows, behind, passed) = c.in-Some.ensures.passed in
-    let (other, rest, more) = c.in-Some-pass_other.ensures.passed in (
+    let (other, rest, more) = c.in-Some-pass_octets_without_row.ensures.passed in (
       λ m. all (rows (other m)),
       λ m h. spelled (rows (other m)) (behind (other m) (rest m h)),
       λ m. more (all (rows (other m))) m
           (passed (all (rows (other m))) (other m) (before (rows (other m)))),
     )
 
-pub pass_each-returns-then-is_empty : goal.pass_each-returns-then-is_empty
-pass_each-returns-then-is_empty t c = λ done.
+pub pass_octets-returns-then-is_empty : goal.pass_octets-returns-then-is_empty
+pass_octets-returns-then-is_empty t c = λ done.
     let none = nil_from_length c.in-Some.behind.now (eqb-true _ 0 (sym c.is_empty.ensures ∙ c.if-is_empty.true)) in
     let (all, spelled, before) = c.loop-behind.invariant in
     let (rows, behind, passed) = c.in-Some.ensures.passed in

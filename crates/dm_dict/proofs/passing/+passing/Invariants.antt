@@ -7,29 +7,29 @@ use Rattle.dm_dict.proofs.passing.+passing.Given as goal
 abbrev pub decreases-passes_members : goal.decreases-passes_members
 decreases-passes_members l = 10 * l.depth + 9
 
-abbrev pub decreases-passes_many : goal.decreases-passes_many
-decreases-passes_many l = 10 * l.depth + 8
+abbrev pub decreases-passes_many_entries : goal.decreases-passes_many_entries
+decreases-passes_many_entries l = 10 * l.depth + 8
 
-abbrev pub decreases-passes_few : goal.decreases-passes_few
-decreases-passes_few l = 10 * l.depth + 8
+abbrev pub decreases-passes_few_entries : goal.decreases-passes_few_entries
+decreases-passes_few_entries l = 10 * l.depth + 8
 
-abbrev pub decreases-passes_counted : goal.decreases-passes_counted
-decreases-passes_counted l = 10 * l.depth + 7
+abbrev pub decreases-passes_with_counters : goal.decreases-passes_with_counters
+decreases-passes_with_counters l = 10 * l.depth + 7
 
-abbrev pub decreases-pass_each : goal.decreases-pass_each
-decreases-pass_each l = 10 * l.depth + 6
+abbrev pub decreases-pass_octets : goal.decreases-pass_octets
+decreases-pass_octets l = 10 * l.depth + 6
 
-abbrev pub decreases-pass_rows : goal.decreases-pass_rows
-decreases-pass_rows l = 10 * l.depth + 5
+abbrev pub decreases-pass_octets_with_rows : goal.decreases-pass_octets_with_rows
+decreases-pass_octets_with_rows l = 10 * l.depth + 5
 
-abbrev pub decreases-pass_other : goal.decreases-pass_other
-decreases-pass_other l = 10 * l.depth + 5
+abbrev pub decreases-pass_octets_without_row : goal.decreases-pass_octets_without_row
+decreases-pass_octets_without_row l = 10 * l.depth + 5
 
-abbrev pub decreases-pass_found : goal.decreases-pass_found
-decreases-pass_found l = 10 * l.depth + 4
+abbrev pub decreases-pass_looked_up_avp : goal.decreases-pass_looked_up_avp
+decreases-pass_looked_up_avp l = 10 * l.depth + 4
 
-abbrev pub decreases-pass_parts : goal.decreases-pass_parts
-decreases-pass_parts l = 10 * l.depth + 3
+abbrev pub decreases-pass_avp_parts : goal.decreases-pass_avp_parts
+decreases-pass_avp_parts l = 10 * l.depth + 3
 
 abbrev pub decreases-passes_avp : goal.decreases-passes_avp
 decreases-passes_avp l = 10 * l.depth + 2
@@ -41,19 +41,19 @@ abbrev pub decreases-passes_group : goal.decreases-passes_group
 decreases-passes_group l = 10 * l.depth
 
 -- the AVPs that were passed, before any others that the octets left may spell
-abbrev pub invariant-pass_rows-loop-avp : goal.invariant-pass_rows-loop-avp
-invariant-pass_rows-loop-avp l =
+abbrev pub invariant-pass_octets_with_rows-loop-avp : goal.invariant-pass_octets_with_rows-loop-avp
+invariant-pass_octets_with_rows-loop-avp l =
     PassesOctets l.depth l.dictionary.tables.avps.items l.rule.entries.now l.octets l.left l.fn.counts l.counts
     × (length l.left ≤ length l.octets)
 
-abbrev pub decreases-pass_rows-loop-avp : goal.decreases-pass_rows-loop-avp
-decreases-pass_rows-loop-avp l = length l.left
+abbrev pub decreases-pass_octets_with_rows-loop-avp : goal.decreases-pass_octets_with_rows-loop-avp
+decreases-pass_octets_with_rows-loop-avp l = length l.left
 
-abbrev pub invariant-pass_each-loop-behind : goal.invariant-pass_each-loop-behind
-invariant-pass_each-loop-behind l =
+abbrev pub invariant-pass_octets-loop-behind : goal.invariant-pass_octets-loop-behind
+invariant-pass_octets-loop-behind l =
     (all : List Avp → List Avp)
     × ((m : List Avp) → SpellsList m l.left → SpellsList (all m) l.octets)
     × ((m : List Avp) → IsGoodBut l.depth l.dictionary.tables.avps.items l.rule.entries.now (all m) m l.counts)
 
-abbrev pub decreases-pass_each-loop-behind : goal.decreases-pass_each-loop-behind
-decreases-pass_each-loop-behind l = length l.left
+abbrev pub decreases-pass_octets-loop-behind : goal.decreases-pass_octets-loop-behind
+decreases-pass_octets-loop-behind l = length l.left

@@ -22,26 +22,26 @@ index-requires c =
     c.self.invariant.seats c.from.ensures (low c) in
     search rules
 
-pub returns-then-is_of : goal.returns-then-is_of
-returns-then-is_of c =
+pub returns-then-names_code : goal.returns-then-names_code
+returns-then-names_code c =
     let rows = c.self.inside.items.items in
-    let (linked, at) = seated_at rows c.self.inside.seats c.args.code c.args.vendor c.from-then-is_of.result
-    c.index.result.now c.self.invariant.seats c.from-then-is_of.ensures
-    (omega (arith, c.from-then-is_of.ensures, c.if-seat-gt-CROWDED.false, c.if-seat.false))
-    (rw (c.from-then-is_of.ensures, ← c.from.ensures) c.index.ensures) in
-    let named = c.if-is_of.ensures in
-    let here : position_from (names_avps c.args.code c.args.vendor) 0 rows ≡ Some c.from-then-is_of.result =
+    let (linked, at) = seated_at rows c.self.inside.seats c.args.code c.args.vendor c.from-then-names_code.result
+    c.index.result.now c.self.invariant.seats c.from-then-names_code.ensures
+    (omega (arith, c.from-then-names_code.ensures, c.if-seat-gt-CROWDED.false, c.if-seat.false))
+    (rw (c.from-then-names_code.ensures, ← c.from.ensures) c.index.ensures) in
+    let named = c.if-names_code.ensures in
+    let here : position_from (names_avps c.args.code c.args.vendor) 0 rows ≡ Some c.from-then-names_code.result =
     rw (← named) at at in
     rw (← c.self.view_is) (stands_there rows c.args.code c.args.vendor c.args.link c.in-Some.definition
-    c.from-then-is_of.result c.in-Some.is here)
+    c.from-then-names_code.result c.in-Some.is here)
 
-pub returns-else-is_of : goal.returns-else-is_of
-returns-else-is_of c =
+pub returns-else-names_code : goal.returns-else-names_code
+returns-else-names_code c =
     let rows = c.self.inside.items.items in
     let (linked, at) = seated_at rows c.self.inside.seats c.args.code c.args.vendor c.from.result c.index.result.now
     c.self.invariant.seats c.from.ensures (omega (arith, c.from.ensures, c.if-seat-gt-CROWDED.false, c.if-seat.false))
     c.index.ensures in
-    let other : names_avps c.args.code c.args.vendor c.index.result.now ≡ false = sym c.is_of.ensures ∙ c.if-is_of.false in
+    let other : names_avps c.args.code c.args.vendor c.index.result.now ≡ false = sym c.names_code.ensures ∙ c.if-names_code.false in
     let none : position_from (names_avps c.args.code c.args.vendor) 0 rows ≡ None = rw other at at in
     rw (← c.self.view_is) (stands_else rows c.args.code c.args.vendor c.args.link c.in-Some.definition
     c.self.inside.any c.in-Some.is none c.self.invariant.any)
