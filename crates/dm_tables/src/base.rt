@@ -35,7 +35,7 @@ fn rule_of_rows(alloc: Global, rows: &[EntryRow]) -> Result<Rule, NoMemory>
     Ok(Rule::from_vec(entries))
 }
 
-/// The definition of a row.
+/// The AVP's definition that a row tells.
 fn avp_of_row(alloc: Global, row: &AvpRow) -> Result<AvpDef, NoMemory>
     ensures { IfOk result (λ avp. avp ≡ row_avp row.now) }
 {
@@ -49,7 +49,7 @@ fn avp_of_row(alloc: Global, row: &AvpRow) -> Result<AvpDef, NoMemory>
     })
 }
 
-/// The definition of a row.
+/// The command's definition that a row tells.
 fn command_of_row(alloc: Global, row: &CommandRow) -> Result<CommandDef, NoMemory>
     ensures { IfOk result (λ command. command ≡ row_command row.now) }
 {
@@ -65,7 +65,7 @@ fn command_of_row(alloc: Global, row: &CommandRow) -> Result<CommandDef, NoMemor
 }
 
 /// Adds the AVPs of the rows, in order.
-fn add_avps(alloc: Global, tables: &mut Tables, rows: &[AvpRow]) -> Result<(), NoMemory>
+fn add_avp_rows(alloc: Global, tables: &mut Tables, rows: &[AvpRow]) -> Result<(), NoMemory>
     requires tables { IsTables tables.old }
     requires sound { each_after is_sound_avp tables.old.avps.items (map row_avp rows.now) ≡ true }
     ensures vendors { OnOk result (tables.new.vendors.items.items ≡ tables.old.vendors.items.items) }
@@ -80,7 +80,7 @@ fn add_avps(alloc: Global, tables: &mut Tables, rows: &[AvpRow]) -> Result<(), N
 }
 
 /// Adds the commands of the rows, in order.
-fn add_commands(alloc: Global, tables: &mut Tables, rows: &[CommandRow]) -> Result<(), NoMemory>
+fn add_command_rows(alloc: Global, tables: &mut Tables, rows: &[CommandRow]) -> Result<(), NoMemory>
     requires tables { IsTables tables.old }
     requires sound { each_after is_sound_command tables.old.commands.items (map row_command rows.now) ≡ true }
     ensures vendors { OnOk result (tables.new.vendors.items.items ≡ tables.old.vendors.items.items) }
@@ -109,26 +109,26 @@ fn command_rows() -> &'static [CommandRow]
 }
 
 /// Adds the definitions of the base dictionary to tables without any.
-fn add_base(alloc: Global, tables: &mut Tables) -> Result<(), NoMemory>
+fn add_base_definitions(alloc: Global, tables: &mut Tables) -> Result<(), NoMemory>
     requires tables { IsTables tables.old }
     requires empty { defined tables.old ≡ nothing_defined }
     ensures base { OnOk result (defined tables.new ≡ base_definitions) }
     ensures dictionary { OnOk result (IsDictionary tables.new) }
 {
-    add_avps(alloc, tables, avp_rows())?;
-    add_commands(alloc, tables, command_rows())?;
+    add_avp_rows(alloc, tables, avp_rows())?;
+    add_command_rows(alloc, tables, command_rows())?;
     Ok(())
 }
 
-/// The same, with room for them.
-fn fill_base(alloc: Global, tables: &mut Tables) -> Result<(), NoMemory>
+/// Adds the definitions of the base dictionary to tables without any, which take room for them first.
+fn reserve_and_add_base(alloc: Global, tables: &mut Tables) -> Result<(), NoMemory>
     requires tables { IsTables tables.old }
     requires empty { defined tables.old ≡ nothing_defined }
     ensures base { OnOk result (defined tables.new ≡ base_definitions) }
     ensures dictionary { OnOk result (IsDictionary tables.new) }
 {
     tables.reserve(AVPS.len(), COMMANDS.len())?;
-    add_base(alloc, tables)
+    add_base_definitions(alloc, tables)
 }
 
 /// The tables of the base dictionary.
@@ -137,6 +137,6 @@ pub fn base_tables(alloc: Global) -> Result<Tables, NoMemory>
     ensures dictionary { IfOk result IsDictionary }
 {
     let mut tables = Tables::new(alloc);
-    let done = fill_base(alloc, &mut tables);
+    let done = reserve_and_add_base(alloc, &mut tables);
     done.and(Ok(tables))
 }

@@ -24,7 +24,7 @@ const LAST_GUESS: usize = 65534;
 const MOST_SLOTS: usize = 65536;
 
 /// A hash of the name, which takes all of its octets at once.
-fn hash_of(name: &[u8]) -> u64
+fn hash_of_name(name: &[u8]) -> u64
     ensures { result ≡ name_hash name.now }
 {
     let mut hasher = FoldHasher::default();
@@ -32,8 +32,8 @@ fn hash_of(name: &[u8]) -> u64
     hasher.finish()
 }
 
-/// The guess of a slot behind the AVP at the place: the first one stays.
-fn first_place(guess: u16, place: usize) -> u16
+/// The guess of a slot once the AVP at the place is noted in it: a guess that it had stays.
+fn guess_after_noting(guess: u16, place: usize) -> u16
     ensures { result ≡ kept_place guess place }
 {
     if guess == NO_GUESS {
@@ -45,7 +45,7 @@ fn first_place(guess: u16, place: usize) -> u16
 
 /// How many slots the names of so many AVPs have: eight or more for each, so that few share one, as far as the AVPs are
 /// few; none for none, which takes no memory.
-fn slots_for(avps: usize) -> usize
+fn slot_count(avps: usize) -> usize
     ensures enough { min (8 * avps) 65536 ≤ result }
     ensures few { result < 131072 }
 {
@@ -61,7 +61,7 @@ impl NameGuesses {
     pub fn new(alloc: Global, avps: usize) -> Result<NameGuesses, NoMemory>
         ensures { IfOk result (λ guesses. AreGuessed [] guesses.places.items) }
     {
-        let places = vec![in alloc; NO_GUESS; slots_for(avps)]?;
+        let places = vec![in alloc; NO_GUESS; slot_count(avps)]?;
         Ok(NameGuesses { places })
     }
 
@@ -88,7 +88,7 @@ impl NameGuesses {
     fn slot(&self, name: &[u8]) -> usize
         ensures { result ≡ slot_of (length self.now.places.items) name.now }
     {
-        hash_of(name) as usize & self.places.len().saturating_sub(1)
+        hash_of_name(name) as usize & self.places.len().saturating_sub(1)
     }
 
     /// The name of the AVP at the place, behind the others.
@@ -100,7 +100,7 @@ impl NameGuesses {
     {
         let slot = self.slot(name);
         if slot < self.places.len() {
-            self.places[slot] = first_place(self.places[slot], place);
+            self.places[slot] = guess_after_noting(self.places[slot], place);
         }
     }
 

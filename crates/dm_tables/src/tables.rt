@@ -201,7 +201,7 @@ impl Tables {
     /// The same as `place_by_name`.
     // (A function of its own in the machine's code too: it is seldom called.)
     #[inline(never)]
-    fn searched_by_name(&self, name: &[u8]) -> Option<usize>
+    fn place_by_name_outlined(&self, name: &[u8]) -> Option<usize>
         requires { IsIndexed self.now }
         ensures { result ≡ position_from (is_named name.now) 0 self.now.avps.items }
     {
@@ -209,7 +209,7 @@ impl Tables {
     }
 
     /// The place of the AVP of a name, where it stands as guessed.
-    fn guessed_by_name(&self, guess: u16, name: &[u8]) -> Option<usize>
+    fn guessed_place_by_name(&self, guess: u16, name: &[u8]) -> Option<usize>
         requires { IsTables self.now }
         ensures { IfSome result (λ place.
             position_from (is_named name.now) 0 self.now.avps.items ≡ Some place) }
@@ -234,14 +234,14 @@ impl Tables {
         if guess == NO_GUESS {
             return None;
         }
-        match self.guessed_by_name(guess, name) {
+        match self.guessed_place_by_name(guess, name) {
             Some(place) => Some(place),
-            None => self.searched_by_name(name),
+            None => self.place_by_name_outlined(name),
         }
     }
 
     /// The place of the AVP of a code and vendor, by their index.
-    fn indexed_place(&self, code: u32, vendor: Option<u32>) -> Option<usize>
+    fn indexed_place_by_code(&self, code: u32, vendor: Option<u32>) -> Option<usize>
         requires { IsIndexed self.now }
         ensures { result ≡ position_from (is_coded code vendor) 0 self.now.avps.items }
     {
@@ -249,7 +249,7 @@ impl Tables {
     }
 
     /// The place of the AVP of a code and vendor, where it stands as guessed.
-    fn guessed_place(&self, code: u32, vendor: Option<u32>) -> Option<usize>
+    fn guessed_place_by_code(&self, code: u32, vendor: Option<u32>) -> Option<usize>
         requires { IsTables self.now }
         ensures value { result ≡ guessed self.now code vendor }
         ensures found { IfSome result (λ place.
@@ -285,9 +285,9 @@ impl Tables {
         requires { IsTables self.now }
         ensures { result ≡ position_from (is_coded code vendor) 0 self.now.avps.items }
     {
-        match self.guessed_place(code, vendor) {
+        match self.guessed_place_by_code(code, vendor) {
             Some(place) => Some(place),
-            None => self.indexed_place(code, vendor),
+            None => self.indexed_place_by_code(code, vendor),
         }
     }
 
@@ -357,7 +357,7 @@ impl Tables {
         requires { IsIndexed self.now }
         ensures { result ≡ list_any (is_coded code vendor) self.now.avps.items }
     {
-        self.indexed_place(code, vendor).is_some()
+        self.indexed_place_by_code(code, vendor).is_some()
     }
 
     /// Whether there is a command of the name.

@@ -125,7 +125,10 @@ fn note_place(
 }
 
 /// Where the first value of each number stands.
-fn places_of(alloc: Global, values: &[EnumValue]) -> Result<IndexMap<i32, usize>, AllocError>
+fn first_places_by_number(
+    alloc: Global,
+    values: &[EnumValue],
+) -> Result<IndexMap<i32, usize>, AllocError>
     ensures { IfOk result (λ places. (n : ℤ)
         → lookup (int_eq n) places.entries ≡ position_from (has_number n) 0 values.now) }
 {
@@ -139,14 +142,14 @@ fn places_of(alloc: Global, values: &[EnumValue]) -> Result<IndexMap<i32, usize>
 }
 
 /// Where the first value of each number of a long list stands. Those of a short one aren't wanted.
-fn index(alloc: Global, values: &[EnumValue]) -> Result<IndexMap<i32, usize>, AllocError>
+fn index_if_long(alloc: Global, values: &[EnumValue]) -> Result<IndexMap<i32, usize>, AllocError>
     ensures { IfOk result (λ places. short_list < length values.now → (n : ℤ)
         → lookup (int_eq n) places.entries ≡ position_from (has_number n) 0 values.now) }
 {
     if values.len() <= SHORT_LIST {
         Ok(IndexMap::new(alloc))
     } else {
-        places_of(alloc, values)
+        first_places_by_number(alloc, values)
     }
 }
 
@@ -180,7 +183,7 @@ impl Values {
     pub fn new(alloc: Global, values: Vec<EnumValue>) -> Result<Values, NoMemory>
         ensures { IfOk result (λ list. list ≡ values.items) }
     {
-        let places = index(alloc, values.as_slice())?;
+        let places = index_if_long(alloc, values.as_slice())?;
         Ok(Values {
             items: values,
             places,
@@ -195,18 +198,18 @@ impl Values {
     }
 
     /// Whether a value has the number.
-    fn lists(&self, number: &i32) -> bool
+    fn has_value_of_number(&self, number: &i32) -> bool
         ensures { result ≡ list_any (has_number number.now) self.now }
     {
         if self.items.len() <= SHORT_LIST {
             is_listed_among(self.items.as_slice(), number)
         } else {
-            self.is_indexed(number)
+            self.index_has_number(number)
         }
     }
 
-    /// The same of a long list, by the index.
-    fn is_indexed(&self, number: &i32) -> bool
+    /// Whether a value of a long list has the number, by the index.
+    fn index_has_number(&self, number: &i32) -> bool
         requires { short_list < length self.now }
         ensures { result ≡ list_any (has_number number.now) self.now }
     {
@@ -218,23 +221,23 @@ impl Values {
     pub fn leaves_out(&self, number: i32) -> bool
         ensures { result ≡ is_unlisted self.now number }
     {
-        !self.items.is_empty() && !self.lists(&number)
+        !self.items.is_empty() && !self.has_value_of_number(&number)
     }
 
     /// The first value of the number. It never answers want of memory, and takes no longer for a
     /// longer list than for one of eight.
-    fn first_of(&self, number: &i32) -> Option<&EnumValue>
+    fn first_of_number(&self, number: &i32) -> Option<&EnumValue>
         ensures { option_copied result ≡ find (has_number number.now) self.now }
     {
         if self.items.len() <= SHORT_LIST {
             value_among(self.items.as_slice(), number)
         } else {
-            self.first_indexed(number)
+            self.indexed_first_of_number(number)
         }
     }
 
-    /// The same of a long list, by the index.
-    fn first_indexed(&self, number: &i32) -> Option<&EnumValue>
+    /// The first value of the number in a long list, by the index.
+    fn indexed_first_of_number(&self, number: &i32) -> Option<&EnumValue>
         requires { short_list < length self.now }
         ensures { option_copied result ≡ find (has_number number.now) self.now }
     {
@@ -247,7 +250,7 @@ impl Values {
     pub fn name(&self, number: i32) -> Option<&Octets>
         ensures { option_copied result ≡ option_map (λ v. v.name) (find (has_number number) self.now) }
     {
-        match self.first_of(&number) {
+        match self.first_of_number(&number) {
             Some(value) => Some(&value.name),
             None => None,
         }
@@ -259,7 +262,7 @@ impl Clone for Values {
 
     fn clone(&self) -> Result<Values, AllocError> {
         let items = self.items.clone()?;
-        let places = index(*self.items.allocator(), items.as_slice())?;
+        let places = index_if_long(*self.items.allocator(), items.as_slice())?;
         Ok(Values { items, places })
     }
 }

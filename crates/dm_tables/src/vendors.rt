@@ -68,19 +68,19 @@ impl Vendors {
     }
 
     /// The vendor of a name.
-    fn by_name(&self, name: &[u8]) -> Option<&VendorDef>
+    fn vendor_by_name(&self, name: &[u8]) -> Option<&VendorDef>
         requires { IsVendored self.now }
         ensures { option_copied result ≡ find (is_vendor name.now) self.now.items.items }
     {
         if self.items.len() <= FEW_VENDORS {
             vendor_among(self.items.as_slice(), name)
         } else {
-            self.indexed_by_name(name)
+            self.indexed_vendor_by_name(name)
         }
     }
 
     /// The vendor of a name, by the index.
-    fn indexed_by_name(&self, name: &[u8]) -> Option<&VendorDef>
+    fn indexed_vendor_by_name(&self, name: &[u8]) -> Option<&VendorDef>
         requires { IsVendored self.now }
         ensures { option_copied result ≡ find (is_vendor name.now) self.now.items.items }
     {
@@ -93,7 +93,7 @@ impl Vendors {
         requires { IsVendored self.now }
         ensures { result ≡ vendor_number self.now.items.items name.now }
     {
-        match self.by_name(name) {
+        match self.vendor_by_name(name) {
             Some(vendor) => Some(vendor.number),
             None => None,
         }
@@ -104,7 +104,7 @@ impl Vendors {
         requires { IsVendored self.now }
         ensures { result ≡ list_any (is_vendor name.now) self.now.items.items }
     {
-        self.by_name(name).is_some()
+        self.vendor_by_name(name).is_some()
     }
 
     /// Whether one of the first vendors, so many, has the name.
@@ -115,12 +115,12 @@ impl Vendors {
         if self.items.len() <= FEW_VENDORS {
             is_vendor_among(self.items.as_slice(), first, name)
         } else {
-            self.is_indexed_among(first, name)
+            self.index_has_name_among(first, name)
         }
     }
 
-    /// The same, by the index.
-    fn is_indexed_among(&self, first: usize, name: &[u8]) -> bool
+    /// Whether one of the first of the vendors, so many, has the name, by the index.
+    fn index_has_name_among(&self, first: usize, name: &[u8]) -> bool
         requires { IsVendored self.now }
         ensures { result ≡ list_any (is_vendor name.now) (take first self.now.items.items) }
     {

@@ -5,7 +5,7 @@ use Rattle.dm_tables.specs.Tables.{defined}
 use Rattle.dm_tables.specs.Sound.{each_after, is_sound_avp}
 use Rattle.dm_tables.proofs.Only.{named_place}
 use Rattle.dm_tables.specs.SoundParts.{sound_parts}
-use Rattle.dm_tables.proofs.tables.Tables.guessed_by_name.Goals as goal
+use Rattle.dm_tables.proofs.tables.Tables.guessed_place_by_name.Goals as goal
 
 pub returns-then-eq : goal.returns-then-eq
 returns-then-eq c =

@@ -2,7 +2,7 @@ use Rattle.std.proofs.Common.{◌≡◌, ◌∙◌, ap, ◌++◌, ◌∷◌, []}
 use Rattle.dm_tables.specs.Rows.{row_avp}
 use Rattle.dm_tables.specs.Sound.{is_sound_avp}
 use Rattle.dm_tables.proofs.Members.{next_member, member_pushed}
-use Rattle.dm_tables.proofs.base.add_avps.Goals as goal
+use Rattle.dm_tables.proofs.base.add_avp_rows.Goals as goal
 
 pub add_avp-requires-clause-sound : goal.add_avp-requires-clause-sound
 add_avp-requires-clause-sound c =

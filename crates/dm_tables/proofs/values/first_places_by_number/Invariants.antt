@@ -3,7 +3,7 @@ use Rattle.std.specs.List.{position_from}
 use Rattle.std.specs.Map.{lookup}
 use Rattle.std.specs.Ordering.{int_eq}
 use Rattle.dm_tables.specs.Listed.{has_number}
-use Rattle.dm_tables.proofs.values.places_of.Given as goal
+use Rattle.dm_tables.proofs.values.first_places_by_number.Given as goal
 
 abbrev pub invariant-loop-value : goal.invariant-loop-value
 invariant-loop-value l =

@@ -2,7 +2,7 @@ use Rattle.std.proofs.Common.{◌≡◌, ◌∙◌, ap, ◌++◌, ◌∷◌, []}
 use Rattle.dm_tables.specs.Rows.{row_command}
 use Rattle.dm_tables.specs.Sound.{is_sound_command}
 use Rattle.dm_tables.proofs.Members.{next_member, member_pushed}
-use Rattle.dm_tables.proofs.base.add_commands.Goals as goal
+use Rattle.dm_tables.proofs.base.add_command_rows.Goals as goal
 
 pub add_command-requires-clause-sound : goal.add_command-requires-clause-sound
 add_command-requires-clause-sound c =

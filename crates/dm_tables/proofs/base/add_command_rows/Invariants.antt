@@ -2,7 +2,7 @@ use Rattle.std.proofs.Common.{◌≡◌, ◌++◌, map, take, drop, true}
 use Rattle.dm_tables.specs.Rows.{row_command}
 use Rattle.dm_tables.specs.Sound.{each_after, is_sound_command}
 use Rattle.dm_tables.specs.Tables.{IsTables}
-use Rattle.dm_tables.proofs.base.add_commands.Given as goal
+use Rattle.dm_tables.proofs.base.add_command_rows.Given as goal
 
 abbrev pub invariant-loop-row : goal.invariant-loop-row
 invariant-loop-row l = record {

@@ -1,7 +1,7 @@
 use Rattle.std.proofs.Common.{◌∙◌, sym, nat_eq, None, Some}
 use Rattle.std.specs.Cmp.Lexicographic.{pointwise}
 use Rattle.dm_tables.proofs.Earlier.{among}
-use Rattle.dm_tables.proofs.vendors.Vendors.is_indexed_among.Goals as goal
+use Rattle.dm_tables.proofs.vendors.Vendors.index_has_name_among.Goals as goal
 
 pub returns-in-Some : goal.returns-in-Some
 returns-in-Some c =

@@ -1,6 +1,6 @@
 use Rattle.std.proofs.Common.{ap, ◌+◌}
 use Rattle.dm_tables.proofs.Numbers.{place_noted}
-use Rattle.dm_tables.proofs.values.places_of.Goals as goal
+use Rattle.dm_tables.proofs.values.first_places_by_number.Goals as goal
 
 pub loop-value-preserved : goal.loop-value-preserved
 loop-value-preserved c = (

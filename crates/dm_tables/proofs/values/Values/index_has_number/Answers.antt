@@ -2,7 +2,7 @@ use Rattle.std.proofs.Common.{◌∙◌, ◌<◌, ap, is_some, length}
 use Rattle.std.specs.List.{list_any}
 use Rattle.dm_tables.specs.Listed.{has_number}
 use Rattle.dm_tables.proofs.Found.{has_place}
-use Rattle.dm_tables.proofs.values.Values.is_indexed.Goals as goal
+use Rattle.dm_tables.proofs.values.Values.index_has_number.Goals as goal
 
 pub returns : goal.returns
 returns c =

@@ -3,7 +3,7 @@ use Rattle.std.specs.List.{position_from}
 use Rattle.std.specs.Option.{option_and_then}
 use Rattle.dm_tables.specs.Listed.{has_number}
 use Rattle.dm_tables.proofs.Places.{at_place}
-use Rattle.dm_tables.proofs.values.Values.first_indexed.Goals as goal
+use Rattle.dm_tables.proofs.values.Values.indexed_first_of_number.Goals as goal
 
 pub returns : goal.returns
 returns c =

@@ -2,7 +2,7 @@ use Rattle.std.proofs.Common.{nat_eq, ◌&&◌}
 use Rattle.std.specs.Option.{option_eq}
 use Rattle.dm_tables.specs.Tables.{code_key}
 use Rattle.dm_tables.proofs.Places.{placed}
-use Rattle.dm_tables.proofs.tables.Tables.indexed_place.Goals as goal
+use Rattle.dm_tables.proofs.tables.Tables.indexed_place_by_code.Goals as goal
 
 pub returns : goal.returns
 returns c =

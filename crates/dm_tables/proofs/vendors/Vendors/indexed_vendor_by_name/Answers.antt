@@ -1,7 +1,7 @@
 use Rattle.std.proofs.Common.{nat_eq}
 use Rattle.std.specs.Cmp.Lexicographic.{pointwise}
 use Rattle.dm_tables.proofs.Places.{found_shown}
-use Rattle.dm_tables.proofs.vendors.Vendors.indexed_by_name.Goals as goal
+use Rattle.dm_tables.proofs.vendors.Vendors.indexed_vendor_by_name.Goals as goal
 
 pub returns : goal.returns
 returns c =
