@@ -29,7 +29,7 @@ fn starred_min(form: Form) -> u32
 }
 
 /// The least number of a qualifier.
-fn low(form: Form, word: Option<Token<'_>>) -> Result<u32, DictFault>
+fn qualifier_min(form: Form, word: Option<Token<'_>>) -> Result<u32, DictFault>
     ensures value { IfOk result (λ n. n ≡ low_or form (view_option word.entry)) }
     ensures good { IfOk result (λ _. option_faults u32.MAX (view_option word.entry) ≡ []) }
     ensures fault { IfErr result (λ f. first_dict_fault (option_faults u32.MAX (view_option word.entry)) ≡ Some f) }
@@ -41,7 +41,7 @@ fn low(form: Form, word: Option<Token<'_>>) -> Result<u32, DictFault>
 }
 
 /// The greatest number of a qualifier.
-fn high(min: u32, word: Option<Token<'_>>) -> Result<Option<u32>, DictFault>
+fn qualifier_max(min: u32, word: Option<Token<'_>>) -> Result<Option<u32>, DictFault>
     ensures value { IfOk result (λ n. n ≡ option_map number (view_option word.entry)) }
     ensures good { IfOk result (λ _. above_faults min (view_option word.entry) ≡ []) }
     ensures fault { IfErr result (λ f. first_dict_fault (above_faults min (view_option word.entry)) ≡ Some f) }
@@ -66,8 +66,8 @@ pub fn bounds(item: &EntryItem<'_>) -> Result<(u32, Option<u32>), DictFault>
 {
     match item.qualifier {
         Some(qualifier) => {
-            let min = low(item.form, qualifier.low)?;
-            let max = high(min, qualifier.high)?;
+            let min = qualifier_min(item.form, qualifier.low)?;
+            let max = qualifier_max(min, qualifier.high)?;
             Ok((min, max))
         }
         None => Ok((plain_min(item.form), Some(1))),

@@ -79,7 +79,7 @@ pub fn check_name(
 }
 
 /// The vendor that is written, if any; None where it is a name that no vendor has.
-fn vendor_of(
+fn vendor_of_word(
     tables: &Tables,
     word: Option<VendorWord<'_>>,
 ) -> Result<Option<Option<u32>>, DictFault>
@@ -101,7 +101,7 @@ fn vendor_of(
 }
 
 /// Whether an AVP has the code and vendor. Where the vendor isn't known, the code isn't compared.
-fn is_taken(tables: &Tables, code: u32, vendor: Option<Option<u32>>) -> bool
+fn is_code_taken(tables: &Tables, code: u32, vendor: Option<Option<u32>>) -> bool
     requires { IsIndexed tables.now }
     ensures { result ≡ is_taken tables.now.avps.items code vendor }
 {
@@ -128,9 +128,9 @@ pub fn check_code(
 {
     let line = code.line;
     let code = number(code, u32::MAX)?;
-    match vendor_of(tables, vendor) {
+    match vendor_of_word(tables, vendor) {
         Ok(vendor) => {
-            if is_taken(tables, code, vendor) {
+            if is_code_taken(tables, code, vendor) {
                 Err(DictFault::Duplicate(line))
             } else {
                 Ok((code, vendor))
@@ -141,7 +141,7 @@ pub fn check_code(
 }
 
 /// The name of a command.
-pub fn check_title(tables: &Tables, word: Token<'_>) -> Result<(), DictFault>
+pub fn check_command_name(tables: &Tables, word: Token<'_>) -> Result<(), DictFault>
     requires { IsIndexed tables.now }
     ensures good { OnOk result (title_faults tables.now.commands.items (view_word word.entry) ≡ []) }
     ensures fault { IfErr result (λ f. first_dict_fault (title_faults tables.now.commands.items (view_word word.entry))
@@ -155,7 +155,7 @@ pub fn check_title(tables: &Tables, word: Token<'_>) -> Result<(), DictFault>
 }
 
 /// The code and the Application-ID of a command.
-pub fn check_head(tables: &Tables, item: &CommandItem<'_>) -> Result<(u32, u32), DictFault>
+pub fn check_command_head(tables: &Tables, item: &CommandItem<'_>) -> Result<(u32, u32), DictFault>
     requires { IsIndexed tables.now }
     ensures code { IfOk result (λ x. x.0 ≡ number (view_command item.now).code) }
     ensures application { IfOk result (λ x. x.1 ≡ unwrap_or (option_map number (view_command item.now).application) 0) }

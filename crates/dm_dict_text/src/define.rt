@@ -18,7 +18,7 @@ ghost use Rattle.dm_dict_text.specs.Faults.{group_item_faults, command_item_faul
 ghost use Rattle.dm_grammar.specs.Items.Written.{AvpIs, GroupIs};
 
 use crate::DictFault;
-use crate::checks::{check_code, check_head, check_name, check_title, check_vendor};
+use crate::checks::{check_code, check_command_head, check_command_name, check_name, check_vendor};
 use crate::entries::rule;
 use crate::kind::type_named;
 use crate::list::value_list;
@@ -50,7 +50,7 @@ fn define_vendor(alloc: Global, tables: &mut Tables, item: &VendorItem<'_>) -> R
 }
 
 /// Puts an AVP behind the others, or notes its name among the strays where its vendor isn't known.
-fn place<'a>(
+fn add_avp_or_stray<'a>(
     alloc: Global,
     tables: &mut Tables,
     guesses: &mut NameGuesses,
@@ -114,7 +114,7 @@ fn define_avp<'a>(
         rule: Rule::empty(alloc),
         values,
     };
-    place(alloc, tables, guesses, strays, item.name.text, vendor, avp)
+    add_avp_or_stray(alloc, tables, guesses, strays, item.name.text, vendor, avp)
 }
 
 /// Defines a Grouped AVP, or notes its name among the strays where its vendor isn't known.
@@ -148,7 +148,7 @@ fn define_group<'a>(
         rule,
         values: Values::empty(alloc),
     };
-    place(alloc, tables, guesses, strays, item.name.text, vendor, avp)
+    add_avp_or_stray(alloc, tables, guesses, strays, item.name.text, vendor, avp)
 }
 
 /// Defines a command.
@@ -166,8 +166,8 @@ fn define_command(
     ensures fault { IfErr result (StopsAtFirst
         (command_item_faults tables.old.commands.items (view_command item.now))) }
 {
-    check_title(tables, item.name)?;
-    let (code, application) = check_head(tables, item)?;
+    check_command_name(tables, item.name)?;
+    let (code, application) = check_command_head(tables, item)?;
     let command = CommandDef {
         name: Octets::from_slice(alloc, item.name.text)?,
         code,
@@ -182,7 +182,7 @@ fn define_command(
 }
 
 /// Defines an item.
-fn define<'a>(
+fn define_item<'a>(
     alloc: Global,
     tables: &mut Tables,
     guesses: &mut NameGuesses,
@@ -208,7 +208,7 @@ fn define<'a>(
 }
 
 /// Defines the items, in order.
-pub fn define_all<'a>(
+pub fn define_items<'a>(
     alloc: Global,
     tables: &mut Tables,
     guesses: &mut NameGuesses,
@@ -227,7 +227,7 @@ pub fn define_all<'a>(
         (items_faults (making tables.old strays.old) (map view_item items.now))) }
 {
     for item in items {
-        define(alloc, tables, guesses, strays, item)?;
+        define_item(alloc, tables, guesses, strays, item)?;
     }
     Ok(())
 }

@@ -15,7 +15,7 @@ use indexmap::IndexSet;
 use std::alloc::Global;
 
 /// The place of a form in a rule: fixed, then required, then optional entries.
-fn rank(form: Form) -> u8
+fn form_rank(form: Form) -> u8
     ensures { result ≡ form_number form }
 {
     match form {
@@ -38,7 +38,7 @@ struct Entries<'a> {
 }
 
 /// Whether one of the entries has the name.
-fn is_named_among(entries: &[Entry], name: &[u8]) -> bool
+fn has_entry_named(entries: &[Entry], name: &[u8]) -> bool
     ensures { result ≡ is_repeated entries.now name.now }
 {
     entries.iter().any(|entry| entry.name.as_slice() == name)
@@ -61,19 +61,19 @@ impl<'a> Entries<'a> {
     }
 
     /// Whether an entry has the name.
-    fn has(&self, name: &[u8]) -> bool
+    fn has_name(&self, name: &[u8]) -> bool
         requires { IsNoted self.now }
         ensures { result ≡ is_repeated self.now.entries.items name.now }
     {
         if self.is_long {
             self.names.contains(name)
         } else {
-            is_named_among(self.entries.as_slice(), name)
+            has_entry_named(self.entries.as_slice(), name)
         }
     }
 
     /// Notes the name of a further entry of a long rule.
-    fn note(&mut self, name: &'a [u8]) -> Result<(), NoMemory>
+    fn note_name(&mut self, name: &'a [u8]) -> Result<(), NoMemory>
         requires noted { IsNoted self.old }
         requires new { is_repeated self.old.entries.items name.now ≡ false }
         ensures entries { self.new.entries.items ≡ self.old.entries.items }
@@ -89,7 +89,7 @@ impl<'a> Entries<'a> {
     }
 
     /// The numbers of an entry that may stand behind the others.
-    fn check(&self, item: &EntryItem<'a>) -> Result<(u32, Option<u32>), DictFault>
+    fn check_entry(&self, item: &EntryItem<'a>) -> Result<(u32, Option<u32>), DictFault>
         requires { IsNoted self.now }
         ensures min { IfOk result (λ b. b.0 ≡ min_of (view_entry item.now).form (view_entry item.now).qualifier) }
         ensures max { IfOk result (λ b. b.1 ≡ max_of (view_entry item.now).qualifier) }
@@ -99,10 +99,10 @@ impl<'a> Entries<'a> {
     {
         let range = bounds(item)?;
         let word = item.name;
-        if self.has(word.text) {
+        if self.has_name(word.text) {
             return Err(DictFault::Duplicate(word.line));
         }
-        if rank(item.form) < rank(self.reached) {
+        if form_rank(item.form) < form_rank(self.reached) {
             return Err(DictFault::Order(word.line));
         }
         Ok(range)
@@ -116,10 +116,10 @@ impl<'a> Entries<'a> {
         ensures noted { OnOk result (IsNoted self.new) }
         ensures fault { IfErr result (StopsAtFirst (rule_entry_faults self.old.entries.items (view_entry item.now))) }
     {
-        let (min, max) = self.check(item)?;
+        let (min, max) = self.check_entry(item)?;
         let form = item.form;
         let word = item.name.text;
-        self.note(word)?;
+        self.note_name(word)?;
         let name = Octets::from_slice(alloc, word)?;
         self.entries.push(Entry {
             form,
@@ -157,8 +157,8 @@ impl<'a> Entries<'a> {
         Ok(())
     }
 
-    /// The same, with room for them.
-    fn fill(&mut self, alloc: Global, items: &[EntryItem<'a>]) -> Result<(), DictFault>
+    /// The entries of the items, in order, where there are none; room for them is taken first.
+    fn add_all_reserved(&mut self, alloc: Global, items: &[EntryItem<'a>]) -> Result<(), DictFault>
         requires empty { self.old.entries.items ≡ [] }
         requires noted { IsNoted self.old }
         ensures added { OnOk result (self.new.entries.items ≡ fold with_entry [] (map view_entry items.now)) }
@@ -177,7 +177,7 @@ fn entries_of(alloc: Global, items: &[EntryItem<'_>]) -> Result<Vec<Entry>, Dict
     ensures fault { IfErr result (StopsAtFirst (rule_faults (map view_entry items.now))) }
 {
     let mut rule = Entries::new(alloc, items.len());
-    let done = rule.fill(alloc, items);
+    let done = rule.add_all_reserved(alloc, items);
     let Entries { entries, .. } = rule;
     done.and(Ok(entries))
 }

@@ -40,14 +40,14 @@ struct Listing<'a> {
 }
 
 /// Whether one of the values has the name.
-fn is_named_among(values: &[EnumValue], name: &[u8]) -> bool
+fn has_value_named(values: &[EnumValue], name: &[u8]) -> bool
     ensures { result ≡ list_any (is_value name.now) values.now }
 {
     values.iter().any(|value| value.name.as_slice() == name)
 }
 
 /// Whether one of the values has the number.
-fn is_numbered_among(values: &[EnumValue], number: &i32) -> bool
+fn has_value_numbered(values: &[EnumValue], number: &i32) -> bool
     ensures { result ≡ list_any (has_number number.now) values.now }
 {
     values.iter().any(|value| *number == value.number)
@@ -77,7 +77,7 @@ impl<'a> Listing<'a> {
         if self.is_long {
             self.names.contains(name)
         } else {
-            is_named_among(self.values.as_slice(), name)
+            has_value_named(self.values.as_slice(), name)
         }
     }
 
@@ -89,12 +89,12 @@ impl<'a> Listing<'a> {
         if self.is_long {
             is_noted(&self.numbers, number)
         } else {
-            is_numbered_among(self.values.as_slice(), number)
+            has_value_numbered(self.values.as_slice(), number)
         }
     }
 
     /// Notes the name and the number of a further value of a long list.
-    fn note(&mut self, name: &'a [u8], number: &i32) -> Result<(), NoMemory>
+    fn note_name_and_number(&mut self, name: &'a [u8], number: &i32) -> Result<(), NoMemory>
         requires listing { IsListing self.old }
         requires name { list_any (is_value name.now) self.old.values.items ≡ false }
         requires number { list_any (has_number number.now) self.old.values.items ≡ false }
@@ -113,7 +113,7 @@ impl<'a> Listing<'a> {
     }
 
     /// The number of a value that may stand behind the others.
-    fn check(&self, item: &ValueItem<'a>) -> Result<i32, DictFault>
+    fn check_value(&self, item: &ValueItem<'a>) -> Result<i32, DictFault>
         requires { IsListing self.now }
         ensures number { IfOk result (λ n. n ≡ pos (number (view_word item.now.number))) }
         ensures small { IfOk result (λ n. unsigned_abs n ≤ 2147483647) }
@@ -138,9 +138,9 @@ impl<'a> Listing<'a> {
         ensures listing { OnOk result (IsListing self.new) }
         ensures fault { IfErr result (StopsAtFirst (listed_value_faults self.old.values.items (view_value item.now))) }
     {
-        let number = self.check(item)?;
+        let number = self.check_value(item)?;
         let word = item.name.text;
-        self.note(word, &number)?;
+        self.note_name_and_number(word, &number)?;
         let name = Octets::from_slice(alloc, word)?;
         self.values.push(EnumValue { name, number })?;
         Ok(())

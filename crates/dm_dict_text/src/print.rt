@@ -53,7 +53,7 @@ fn push_piece(text: &mut Vec<u8>, piece: &[u8]) -> Result<(), NoMemory>
     Ok(())
 }
 
-fn push_number(text: &mut Vec<u8>, number: u32) -> Result<(), NoMemory>
+fn push_spaced_number(text: &mut Vec<u8>, number: u32) -> Result<(), NoMemory>
     ensures { OnOk result (text.new.items ≡ text.old.items ++ spaced_number number) }
 {
     push_piece(text, b" ")?;
@@ -61,16 +61,16 @@ fn push_number(text: &mut Vec<u8>, number: u32) -> Result<(), NoMemory>
     Ok(())
 }
 
-fn push_option(text: &mut Vec<u8>, number: Option<u32>) -> Result<(), NoMemory>
+fn push_spaced_option(text: &mut Vec<u8>, number: Option<u32>) -> Result<(), NoMemory>
     ensures { OnOk result (text.new.items ≡ text.old.items ++ spaced_option number) }
 {
     match number {
-        Some(number) => push_number(text, number),
+        Some(number) => push_spaced_number(text, number),
         None => Ok(()),
     }
 }
 
-fn push_bound(text: &mut Vec<u8>, number: Option<u32>) -> Result<(), NoMemory>
+fn push_optional_decimal(text: &mut Vec<u8>, number: Option<u32>) -> Result<(), NoMemory>
     ensures { OnOk result (text.new.items ≡ text.old.items ++ decimal_option number) }
 {
     if let Some(number) = number {
@@ -89,9 +89,9 @@ fn push_entry(text: &mut Vec<u8>, entry: &Entry) -> Result<(), NoMemory>
     ensures { OnOk result (text.new.items ≡ text.old.items ++ entry_text entry.now) }
 {
     let (open, close) = brackets(entry.form);
-    push_number(text, entry.min)?;
+    push_spaced_number(text, entry.min)?;
     push_piece(text, b"*")?;
-    push_bound(text, entry.max)?;
+    push_optional_decimal(text, entry.max)?;
     push_piece(text, open)?;
     push_piece(text, entry.name.as_slice())?;
     push_piece(text, close)
@@ -107,7 +107,7 @@ fn push_entries(text: &mut Vec<u8>, entries: &[Entry]) -> Result<(), NoMemory>
 }
 
 /// What stands behind the numbers of a head: its end, the rule and the end of the line.
-fn push_rule(text: &mut Vec<u8>, rule: &Rule) -> Result<(), NoMemory>
+fn push_head_end_and_rule(text: &mut Vec<u8>, rule: &Rule) -> Result<(), NoMemory>
     ensures { OnOk result (text.new.items ≡ text.old.items ++ rule_end rule.now) }
 {
     push_piece(text, b" >")?;
@@ -115,7 +115,7 @@ fn push_rule(text: &mut Vec<u8>, rule: &Rule) -> Result<(), NoMemory>
     push_piece(text, b"\n")
 }
 
-fn push_kind(text: &mut Vec<u8>, kind: AvpType) -> Result<(), NoMemory>
+fn push_type_name(text: &mut Vec<u8>, kind: AvpType) -> Result<(), NoMemory>
     ensures { OnOk result (text.new.items ≡ text.old.items ++ spaced (type_name kind)) }
 {
     push_piece(text, b" ")?;
@@ -127,7 +127,7 @@ fn push_value(text: &mut Vec<u8>, value: &EnumValue) -> Result<(), NoMemory>
 {
     push_piece(text, b" ")?;
     push_piece(text, value.name.as_slice())?;
-    push_number(text, value.number.unsigned_abs())
+    push_spaced_number(text, value.number.unsigned_abs())
 }
 
 fn push_next_value(text: &mut Vec<u8>, value: &EnumValue) -> Result<(), NoMemory>
@@ -147,7 +147,7 @@ fn push_more_values(text: &mut Vec<u8>, values: &[EnumValue]) -> Result<(), NoMe
 }
 
 /// A list of values, where there is one.
-fn push_list(text: &mut Vec<u8>, values: &[EnumValue]) -> Result<(), NoMemory>
+fn push_value_list(text: &mut Vec<u8>, values: &[EnumValue]) -> Result<(), NoMemory>
     ensures { OnOk result (text.new.items ≡ text.old.items ++ value_list_text values.now) }
 {
     match values {
@@ -162,30 +162,30 @@ fn push_list(text: &mut Vec<u8>, values: &[EnumValue]) -> Result<(), NoMemory>
 }
 
 /// What stands behind the code of an AVP that isn't Grouped.
-fn push_plain_end(text: &mut Vec<u8>, avp: &AvpDef) -> Result<(), NoMemory>
+fn push_plain_avp_end(text: &mut Vec<u8>, avp: &AvpDef) -> Result<(), NoMemory>
     ensures { OnOk result (text.new.items ≡ text.old.items ++ plain_end avp.now) }
 {
-    push_kind(text, avp.kind)?;
-    push_option(text, avp.vendor)?;
-    push_list(text, avp.values.as_slice())?;
+    push_type_name(text, avp.kind)?;
+    push_spaced_option(text, avp.vendor)?;
+    push_value_list(text, avp.values.as_slice())?;
     push_piece(text, b"\n")
 }
 
-fn push_plain(text: &mut Vec<u8>, avp: &AvpDef) -> Result<(), NoMemory>
+fn push_plain_avp(text: &mut Vec<u8>, avp: &AvpDef) -> Result<(), NoMemory>
     ensures { OnOk result (text.new.items ≡ text.old.items ++ plain_line avp.now) }
 {
     push_piece(text, b"@ ")?;
     push_piece(text, avp.name.as_slice())?;
-    push_number(text, avp.code)?;
-    push_plain_end(text, avp)
+    push_spaced_number(text, avp.code)?;
+    push_plain_avp_end(text, avp)
 }
 
 fn push_group_head(text: &mut Vec<u8>, avp: &AvpDef) -> Result<(), NoMemory>
     ensures { OnOk result (text.new.items ≡ text.old.items ++ group_head_text avp.now) }
 {
     push_piece(text, b" > ::= < AVP Header:")?;
-    push_number(text, avp.code)?;
-    push_option(text, avp.vendor)
+    push_spaced_number(text, avp.code)?;
+    push_spaced_option(text, avp.vendor)
 }
 
 fn push_group(text: &mut Vec<u8>, avp: &AvpDef) -> Result<(), NoMemory>
@@ -194,7 +194,7 @@ fn push_group(text: &mut Vec<u8>, avp: &AvpDef) -> Result<(), NoMemory>
     push_piece(text, b"< ")?;
     push_piece(text, avp.name.as_slice())?;
     push_group_head(text, avp)?;
-    push_rule(text, &avp.rule)
+    push_head_end_and_rule(text, &avp.rule)
 }
 
 fn push_avp(text: &mut Vec<u8>, avp: &AvpDef) -> Result<(), NoMemory>
@@ -202,11 +202,11 @@ fn push_avp(text: &mut Vec<u8>, avp: &AvpDef) -> Result<(), NoMemory>
 {
     match avp.kind {
         AvpType::Grouped => push_group(text, avp),
-        _ => push_plain(text, avp),
+        _ => push_plain_avp(text, avp),
     }
 }
 
-fn push_flags(text: &mut Vec<u8>, command: &CommandDef) -> Result<(), NoMemory>
+fn push_command_flags(text: &mut Vec<u8>, command: &CommandDef) -> Result<(), NoMemory>
     ensures { OnOk result (text.new.items ≡ text.old.items ++ flags_text command.now) }
 {
     push_flag(text, command.request, b", REQ")?;
@@ -218,9 +218,9 @@ fn push_command_head(text: &mut Vec<u8>, command: &CommandDef) -> Result<(), NoM
     ensures { OnOk result (text.new.items ≡ text.old.items ++ command_head_text command.now) }
 {
     push_piece(text, b" > ::= < Diameter Header:")?;
-    push_number(text, command.code)?;
-    push_flags(text, command)?;
-    push_number(text, command.application)
+    push_spaced_number(text, command.code)?;
+    push_command_flags(text, command)?;
+    push_spaced_number(text, command.application)
 }
 
 fn push_command(text: &mut Vec<u8>, command: &CommandDef) -> Result<(), NoMemory>
@@ -229,7 +229,7 @@ fn push_command(text: &mut Vec<u8>, command: &CommandDef) -> Result<(), NoMemory
     push_piece(text, b"< ")?;
     push_piece(text, command.name.as_slice())?;
     push_command_head(text, command)?;
-    push_rule(text, &command.rule)
+    push_head_end_and_rule(text, &command.rule)
 }
 
 /// Puts the line of each AVP behind the text.
@@ -257,7 +257,7 @@ fn push_vendor(text: &mut Vec<u8>, vendor: &VendorDef) -> Result<(), NoMemory>
 {
     push_piece(text, b"@ vendor ")?;
     push_piece(text, vendor.name.as_slice())?;
-    push_number(text, vendor.number)?;
+    push_spaced_number(text, vendor.number)?;
     push_piece(text, b"\n")
 }
 

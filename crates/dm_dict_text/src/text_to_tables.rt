@@ -12,7 +12,7 @@ ghost use Rattle.dm_dict_text.specs.Faults.{StopsAtFirst};
 ghost use Rattle.dm_dict_text.specs.Outcome.{Defines, IsFirstFault, all_faults};
 
 use crate::DictFault;
-use crate::define::define_all;
+use crate::define::define_items;
 use crate::unknown::first_unknown;
 use dm_grammar::{Item, read_items};
 use dm_tables::{NameGuesses, NoMemory, Tables};
@@ -20,7 +20,7 @@ use indexmap::IndexSet;
 use std::alloc::Global;
 
 /// How many AVPs and commands the old tables and the items define.
-fn counted(old: &Tables, items: &[Item<'_>]) -> (usize, usize)
+fn avp_and_command_counts(old: &Tables, items: &[Item<'_>]) -> (usize, usize)
     ensures avps { result.0 ≤ length old.now.avps.items + length items.now }
     ensures commands { result.1 ≤ length old.now.commands.items + length items.now }
 {
@@ -38,7 +38,7 @@ fn counted(old: &Tables, items: &[Item<'_>]) -> (usize, usize)
 
 /// Adds the definitions of the items to copies of those of the old tables; the names of strays are put into a set
 /// without any.
-fn add_behind<'a>(
+fn define_and_check_items<'a>(
     alloc: Global,
     tables: &mut Tables,
     guesses: &mut NameGuesses,
@@ -58,7 +58,7 @@ fn add_behind<'a>(
     ensures dictionary { OnOk result (IsDictionary tables.new) }
     ensures fault { IfErr result (StopsAtFirst (all_faults (defined old.now) (map view_item items.now))) }
 {
-    define_all(alloc, tables, guesses, strays, items)?;
+    define_items(alloc, tables, guesses, strays, items)?;
     let vendors = old.vendors.items.as_slice().len();
     match first_unknown(tables, guesses, strays, vendors, items) {
         Some(fault) => Err(fault),
@@ -68,7 +68,7 @@ fn add_behind<'a>(
 
 /// Copies of the definitions of the old tables, in tables without any, with room for so many in all; and the guesses of
 /// their names.
-fn copy_old(
+fn copy_old_tables(
     alloc: Global,
     tables: &mut Tables,
     old: &Tables,
@@ -91,7 +91,7 @@ fn copy_old(
 
 /// Adds the definitions of the old tables and those of the items to tables without any; the names of strays
 /// are put into a set without any.
-fn add_items<'a>(
+fn add_old_and_new_definitions<'a>(
     alloc: Global,
     tables: &mut Tables,
     strays: &mut IndexSet<&'a [u8]>,
@@ -109,15 +109,15 @@ fn add_items<'a>(
     ensures dictionary { OnOk result (IsDictionary tables.new) }
     ensures fault { IfErr result (StopsAtFirst (all_faults (defined old.now) (map view_item items.now))) }
 {
-    let (avps, commands) = counted(old, items);
-    let mut guesses = copy_old(alloc, tables, old, avps, commands)?;
-    let done = add_behind(alloc, tables, &mut guesses, strays, old, items);
+    let (avps, commands) = avp_and_command_counts(old, items);
+    let mut guesses = copy_old_tables(alloc, tables, old, avps, commands)?;
+    let done = define_and_check_items(alloc, tables, &mut guesses, strays, old, items);
     drop(guesses);
     done
 }
 
 /// The definitions of the old tables, followed by those of the items.
-fn tables_of(alloc: Global, old: &Tables, items: &[Item<'_>]) -> Result<Tables, DictFault>
+fn extended_tables(alloc: Global, old: &Tables, items: &[Item<'_>]) -> Result<Tables, DictFault>
     requires old { IsDictionary old.now }
     requires worded { list_all is_worded (map view_item items.now) ≡ true }
     ensures good { IfOk result (λ _. all_faults (defined old.now) (map view_item items.now) ≡ []) }
@@ -128,7 +128,7 @@ fn tables_of(alloc: Global, old: &Tables, items: &[Item<'_>]) -> Result<Tables, 
 {
     let mut tables = Tables::new(alloc);
     let mut strays = IndexSet::new(alloc);
-    let done = add_items(alloc, &mut tables, &mut strays, old, items);
+    let done = add_old_and_new_definitions(alloc, &mut tables, &mut strays, old, items);
     drop(strays);
     done.and(Ok(tables))
 }
@@ -142,7 +142,7 @@ pub fn read_tables(alloc: Global, text: &[u8], old: &Tables) -> Result<Tables, D
     ensures fault { IfErr result (λ f. (f ≡ faults.NoMemory) ⊎ IsFirstFault text.now (defined old.now) f) }
 {
     let found = read_items(alloc, text)?;
-    let tables = tables_of(alloc, old, found.as_slice());
+    let tables = extended_tables(alloc, old, found.as_slice());
     drop(found);
     tables
 }

@@ -110,8 +110,8 @@ fn unknown_in_item(
     }
 }
 
-/// How many of the vendors stand before what is behind the item, where so many stand before it.
-fn behind(vendors: &[VendorDef], before: usize, item: &Item<'_>) -> usize
+/// How many of the vendors are defined once the item is read, where so many were before it.
+fn vendor_count_after_item(vendors: &[VendorDef], before: usize, item: &Item<'_>) -> usize
     requires { before + vendor_count (view_item item.now) ≤ length vendors.now }
     ensures { result ≡ before + vendor_count (view_item item.now) }
 {
@@ -144,7 +144,7 @@ pub fn first_unknown(
         if fault.is_some() {
             return fault;
         }
-        seen = behind(tables.vendors.items.as_slice(), seen, item);
+        seen = vendor_count_after_item(tables.vendors.items.as_slice(), seen, item);
     }
     None
 }

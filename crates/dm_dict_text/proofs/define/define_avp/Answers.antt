@@ -15,12 +15,12 @@ use Rattle.dm_dict_text.proofs.Strays.{no_stray, placed_same}
 use Rattle.dm_dict_text.proofs.Soundness.{sound_avp, sound_list, list_is, listing_kind, empty_rule, empty_kind}
 use Rattle.dm_dict_text.proofs.define.define_avp.Goals as goal
 
-pub place-requires-clause-new : goal.place-requires-clause-new
-place-requires-clause-new c =
+pub add_avp_or_stray-requires-clause-new : goal.add_avp_or_stray-requires-clause-new
+add_avp_or_stray-requires-clause-new c =
     no_stray (making c.args.tables.now c.args.strays.now) (view_word c.args.item.now.name) c.in_ok-check_name.ensures.good
 
-pub place-requires-clause-sound : goal.place-requires-clause-sound
-place-requires-clause-sound c =
+pub add_avp_or_stray-requires-clause-sound : goal.add_avp_or_stray-requires-clause-sound
+add_avp_or_stray-requires-clause-sound c =
     λ v is.
     let (words, may) = and_parts _ _ c.requires.worded in
     let (named, worded) = and_parts _ _ words in
@@ -77,9 +77,10 @@ returns-clause-added c =
       rule = c.empty.ensures i;
       values = list i;
     } in
-    subst (λ (x : WithStrays). OnOk c.place.result (making c.place.new.tables c.place.new.strays ≡ x))
+    subst (λ (x : WithStrays). OnOk c.add_avp_or_stray.result
+    (making c.add_avp_or_stray.new.tables c.add_avp_or_stray.new.strays ≡ x))
     (placed_same m name def avp c.in_ok-code.vendor same ∙ ap (placed m name def) c.in_ok-code.ensures.vendor)
-    c.place.ensures.added
+    c.add_avp_or_stray.ensures.added
 
 pub returns-in_err-code-clause-fault : goal.returns-in_err-code-clause-fault
 returns-in_err-code-clause-fault c =

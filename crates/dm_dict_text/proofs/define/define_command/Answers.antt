@@ -31,7 +31,7 @@ add_command-requires-clause-sound c =
     } in
     sound_command c.args.tables.now.commands.items command (view_command c.args.item.now)
     c.in_ok-from_slice.ensures c.in_ok-code.ensures.code refl refl c.in_ok-code.ensures.application words.0
-    c.in_ok-check_title.ensures.good c.in_ok-code.ensures.good
+    c.in_ok-check_command_name.ensures.good c.in_ok-code.ensures.good
     (sound_rule entries c.in_ok-rule.field-0 rule words.1 good)
 
 pub returns-clause-added : goal.returns-clause-added

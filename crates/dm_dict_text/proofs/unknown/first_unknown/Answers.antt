@@ -12,8 +12,8 @@ returns-then-is_some c =
     c.loop-item-test.true c.item-item.is c.loop-item.invariant.left c.unknown_in_item-fault.ensures
     (sym c.is_some.ensures ∙ c.if-is_some.true)
 
-pub behind-seen-requires : goal.behind-seen-requires
-behind-seen-requires c =
+pub vendor_count_after_item-seen-requires : goal.vendor_count_after_item-seen-requires
+vendor_count_after_item-seen-requires c =
     let step = next_step (making c.args.tables.now c.args.strays.now) c.args.tables.now.vendors.items.items view_item
     c.args.items.now
     c.loop-item.item-index c.loop-item.seen _ c.item-item.result c.loop-item-test.true c.item-item.is
@@ -28,7 +28,7 @@ loop-item-preserved c =
     c.loop-item.item-index c.loop-item.seen _ c.item-item.result c.loop-item-test.true c.item-item.is
     c.loop-item.invariant.within c.loop-item.invariant.theirs in
     let none = is_none c.unknown_in_item-fault.result (sym c.is_some.ensures ∙ c.if-is_some.false) in
-    rw (c.behind-seen.ensures)
+    rw (c.vendor_count_after_item-seen.ensures)
     (record {
       within = step.1;
       theirs = next_theirs all vendors view_item c.args.items.now c.loop-item.item-index c.loop-item.seen _ _

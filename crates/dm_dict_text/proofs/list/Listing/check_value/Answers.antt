@@ -7,7 +7,7 @@ use Rattle.dm_grammar.specs.Views.{view_value}
 use Rattle.dm_tables.specs.Listed.{has_number}
 use Rattle.dm_tables.specs.Sound.{is_value}
 use Rattle.dm_dict_text.proofs.ListFaults.{name_stops, range_stops, number_stops, no_value_fault}
-use Rattle.dm_dict_text.proofs.list.Listing.check.Goals as goal
+use Rattle.dm_dict_text.proofs.list.Listing.check_value.Goals as goal
 
 pub returns-then-has_name-clause-fault : goal.returns-then-has_name-clause-fault
 returns-then-has_name-clause-fault c =

@@ -3,7 +3,7 @@ use Rattle.dm_tables.specs.Tables.{defined}
 use Rattle.dm_dict_text.specs.Making.{making}
 use Rattle.dm_dict_text.specs.Meaning.{placed}
 use Rattle.dm_dict_text.proofs.Strays.{stray_noted}
-use Rattle.dm_dict_text.proofs.define.place.Goals as goal
+use Rattle.dm_dict_text.proofs.define.add_avp_or_stray.Goals as goal
 
 pub returns-in_ok-insert-in-None-clause-added : goal.returns-in_ok-insert-in-None-clause-added
 returns-in_ok-insert-in-None-clause-added c =

@@ -8,7 +8,7 @@ use Rattle.dm_dict_text.specs.Worded.{is_worded}
 use Rattle.dm_dict_text.specs.Meaning.{with_item}
 use Rattle.dm_dict_text.specs.Faults.{item_faults}
 use Rattle.dm_dict_text.proofs.Along.{Along}
-use Rattle.dm_dict_text.proofs.define.define_all.Given as goal
+use Rattle.dm_dict_text.proofs.define.define_items.Given as goal
 
 abbrev pub invariant-loop-item : goal.invariant-loop-item
 invariant-loop-item l = record {

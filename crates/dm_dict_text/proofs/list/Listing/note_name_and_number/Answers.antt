@@ -5,7 +5,7 @@ use Rattle.std.specs.Cmp.Lexicographic.{pointwise}
 use Rattle.dm_dict_text.proofs.EntryFaults.{any-map}
 use Rattle.dm_dict_text.proofs.ListFaults.{number_kept, key_last}
 use Rattle.dm_dict_text.proofs.Strays.{stray_noted}
-use Rattle.dm_dict_text.proofs.list.Listing.note.Goals as goal
+use Rattle.dm_dict_text.proofs.list.Listing.note_name_and_number.Goals as goal
 
 pub returns-in_ok-note_number-clause-names : goal.returns-in_ok-note_number-clause-names
 returns-in_ok-note_number-clause-names c = λ long.

@@ -1,6 +1,6 @@
 use Rattle.std.proofs.Common.{◌∙◌}
 use Rattle.dm_dict_text.proofs.EntryFaults.{repeated}
-use Rattle.dm_dict_text.proofs.entries.Entries.has.Goals as goal
+use Rattle.dm_dict_text.proofs.entries.Entries.has_name.Goals as goal
 
 pub returns-then-self : goal.returns-then-self
 returns-then-self c =

@@ -1,5 +1,5 @@
 use Rattle.dm_dict_text.proofs.EntryFaults.{more_names}
-use Rattle.dm_dict_text.proofs.entries.Entries.note.Goals as goal
+use Rattle.dm_dict_text.proofs.entries.Entries.note_name.Goals as goal
 
 pub returns-in_ok-insert-clause-names : goal.returns-in_ok-insert-clause-names
 returns-in_ok-insert-clause-names c = λ long.
