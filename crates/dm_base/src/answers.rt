@@ -10,10 +10,11 @@ ghost use Rattle.dm_base.specs.Built.{built_cea, built_answer, built_error};
 
 use crate::Node;
 use crate::codes::RESULT_CODE;
-use crate::headers::answer;
+use crate::headers::header_of_answer;
 use crate::laws::built_is_spelled;
 use crate::parts::{
-    answer_state, most_avps, number, put_capabilities, put_failed, put_origin, put_state,
+    answer_state, avp_count_bound, put_capabilities, put_failed_avp, put_origin,
+    put_origin_state_id, unsigned32_avp,
 };
 use dm_dict::NoMemory;
 use dm_wire::{Avp, AvpList, Header, Message};
@@ -36,9 +37,9 @@ pub fn cea(
         → IsBase (built_cea node.now to.now code (option_copied failed.entry)) (kinds.Cea code) }
 {
     built_is_spelled();
-    let header = answer(false, to);
-    let mut avps = Vec::with_capacity(alloc, most_avps(node))?;
-    avps.push(number(alloc, RESULT_CODE, code)?)?;
+    let header = header_of_answer(false, to);
+    let mut avps = Vec::with_capacity(alloc, avp_count_bound(node))?;
+    avps.push(unsigned32_avp(alloc, RESULT_CODE, code)?)?;
     put_capabilities(alloc, &mut avps, node, failed)?;
     Ok(Message {
         header,
@@ -47,7 +48,7 @@ pub fn cea(
 }
 
 /// The answer to a Device-Watchdog-Request or Disconnect-Peer-Request of this header.
-fn plain_answer(
+fn dwa_or_dpa(
     alloc: Global,
     node: &Node,
     to: &Header,
@@ -57,12 +58,12 @@ fn plain_answer(
     ensures built { IfOk result (λ m. m ≡ built_answer node.now to.now code (option_copied failed.entry)) }
     ensures fits { to.now.command < 256 ^ 3 → HeaderFits to.now }
 {
-    let header = answer(false, to);
+    let header = header_of_answer(false, to);
     let mut avps = Vec::with_capacity(alloc, 5)?;
-    avps.push(number(alloc, RESULT_CODE, code)?)?;
+    avps.push(unsigned32_avp(alloc, RESULT_CODE, code)?)?;
     put_origin(alloc, &mut avps, node)?;
-    put_failed(alloc, &mut avps, failed)?;
-    put_state(alloc, &mut avps, answer_state(node, to.command))?;
+    put_failed_avp(alloc, &mut avps, failed)?;
+    put_origin_state_id(alloc, &mut avps, answer_state(node, to.command))?;
     Ok(Message {
         header,
         avps: AvpList::from_vec(avps),
@@ -86,7 +87,7 @@ pub fn dwa(
         → IsBase (built_answer node.now to.now code (option_copied failed.entry)) kinds.Dwa }
 {
     built_is_spelled();
-    plain_answer(alloc, node, to, code, failed)
+    dwa_or_dpa(alloc, node, to, code, failed)
 }
 
 /// The Disconnect-Peer-Answer to a request of this header (RFC 6733, 5.4.2): the Result-Code, and the
@@ -106,18 +107,18 @@ pub fn dpa(
         → IsBase (built_answer node.now to.now code (option_copied failed.entry)) kinds.Dpa }
 {
     built_is_spelled();
-    plain_answer(alloc, node, to, code, failed)
+    dwa_or_dpa(alloc, node, to, code, failed)
 }
 
 /// The answer with the E bit to a request of this header.
-fn plain_error(alloc: Global, node: &Node, to: &Header, code: u32) -> Result<Message, NoMemory>
+fn error_bit_answer(alloc: Global, node: &Node, to: &Header, code: u32) -> Result<Message, NoMemory>
     ensures built { IfOk result (λ m. m ≡ built_error node.now to.now code) }
     ensures fits { to.now.command < 256 ^ 3 → HeaderFits to.now }
 {
-    let header = answer(true, to);
+    let header = header_of_answer(true, to);
     let mut avps = Vec::with_capacity(alloc, 3)?;
     put_origin(alloc, &mut avps, node)?;
-    avps.push(number(alloc, RESULT_CODE, code)?)?;
+    avps.push(unsigned32_avp(alloc, RESULT_CODE, code)?)?;
     Ok(Message {
         header,
         avps: AvpList::from_vec(avps),
@@ -133,5 +134,5 @@ pub fn error_answer(alloc: Global, node: &Node, to: &Header, code: u32) -> Resul
     ensures good { IsGood (built_error node.now to.now code) }
 {
     built_is_spelled();
-    plain_error(alloc, node, to, code)
+    error_bit_answer(alloc, node, to, code)
 }

@@ -11,7 +11,7 @@ use crate::limits::MAX_IDS;
 use crate::{Caps, Node};
 
 /// Whether the id is among ids that rise.
-fn finds(sorted: &[u32], id: u32) -> bool
+fn contains_id(sorted: &[u32], id: u32) -> bool
     requires { IsNonDecreasing sorted.now }
     ensures { result ≡ lists_id sorted.now id }
 {
@@ -22,7 +22,7 @@ fn finds(sorted: &[u32], id: u32) -> bool
 }
 
 /// The ids, sorted in the space.
-pub(crate) fn sorted_in<'a>(space: &'a mut [u32; MAX_IDS], ids: &[u32]) -> &'a [u32]
+pub(crate) fn sorted_ids<'a>(space: &'a mut [u32; MAX_IDS], ids: &[u32]) -> &'a [u32]
     requires { length ids.now ≤ max_ids }
     ensures rising { IsNonDecreasing result.now }
     ensures same { IsPermutation ids.now result.now }
@@ -34,24 +34,24 @@ pub(crate) fn sorted_in<'a>(space: &'a mut [u32; MAX_IDS], ids: &[u32]) -> &'a [
 }
 
 /// Whether the id is among own ids that rise, or a relay's.
-pub(crate) fn is_own(auth: &[u32], acct: &[u32], specific: &[u32], id: u32) -> bool
+pub(crate) fn is_own_or_relay_id(auth: &[u32], acct: &[u32], specific: &[u32], id: u32) -> bool
     requires auth { IsNonDecreasing auth.now }
     requires acct { IsNonDecreasing acct.now }
     requires specific { IsNonDecreasing specific.now }
     ensures { result ≡ is_own auth.now acct.now specific.now id }
 {
-    id == RELAY || finds(auth, id) || finds(acct, id) || finds(specific, id)
+    id == RELAY || contains_id(auth, id) || contains_id(acct, id) || contains_id(specific, id)
 }
 
 /// Whether some id is among own ids that rise, or a relay's.
-fn meets_sorted(auth: &[u32], acct: &[u32], specific: &[u32], theirs: &[u32]) -> bool
+fn has_own_or_relay_id(auth: &[u32], acct: &[u32], specific: &[u32], theirs: &[u32]) -> bool
     requires auth { IsNonDecreasing auth.now }
     requires acct { IsNonDecreasing acct.now }
     requires specific { IsNonDecreasing specific.now }
     ensures { result ≡ list_any (is_own auth.now acct.now specific.now) theirs.now }
 {
     for id in theirs {
-        if is_own(auth, acct, specific, *id) {
+        if is_own_or_relay_id(auth, acct, specific, *id) {
             return true;
         }
     }
@@ -59,7 +59,7 @@ fn meets_sorted(auth: &[u32], acct: &[u32], specific: &[u32], theirs: &[u32]) ->
 }
 
 /// The ids of the node's applications of vendors.
-pub(crate) fn specific_ids(node: &Node) -> &[u32]
+pub(crate) fn vendor_application_ids(node: &Node) -> &[u32]
     ensures ids { result.now ≡ specific_ids node.now }
     ensures few { length result.now ≤ max_ids }
 {
@@ -75,18 +75,18 @@ pub(crate) fn is_relay(node: &Node) -> bool
 {
     node.auth.as_slice().contains(&RELAY)
         || node.acct.as_slice().contains(&RELAY)
-        || specific_ids(node).contains(&RELAY)
+        || vendor_application_ids(node).contains(&RELAY)
 }
 
 /// Whether some of the ids is the node's, or a relay's. The node's ids are sorted once, on the stack.
-fn meets(node: &Node, theirs: &[u32]) -> bool
+fn has_common_id(node: &Node, theirs: &[u32]) -> bool
     ensures { result ≡ meets node.now theirs.now }
 {
     let (mut auth, mut acct, mut specific) = ([0; MAX_IDS], [0; MAX_IDS], [0; MAX_IDS]);
-    let auth = sorted_in(&mut auth, node.auth.as_slice());
-    let acct = sorted_in(&mut acct, node.acct.as_slice());
-    let specific = sorted_in(&mut specific, specific_ids(node));
-    meets_sorted(auth, acct, specific, theirs)
+    let auth = sorted_ids(&mut auth, node.auth.as_slice());
+    let acct = sorted_ids(&mut acct, node.acct.as_slice());
+    let specific = sorted_ids(&mut specific, vendor_application_ids(node));
+    has_own_or_relay_id(auth, acct, specific, theirs)
 }
 
 /// Whether some Application-ID is on both sides, or one side is a relay (RFC 6733, 5.3). It never answers want of
@@ -94,7 +94,7 @@ fn meets(node: &Node, theirs: &[u32]) -> bool
 pub fn common(caps: &Caps, node: &Node) -> bool
     ensures { result ≡ is_common caps.now node.now }
 {
-    is_relay(node) || meets(node, caps.applications.as_slice())
+    is_relay(node) || has_common_id(node, caps.applications.as_slice())
 }
 
 /// Whether some Application-ID is on both nodes, or one is a relay (RFC 6733, 5.3). It never answers want of memory,
@@ -104,9 +104,9 @@ pub fn common_nodes(one: &Node, other: &Node) -> bool
 {
     is_relay(one)
         || is_relay(other)
-        || meets(one, other.auth.as_slice())
-        || meets(one, other.acct.as_slice())
-        || meets(one, specific_ids(other))
+        || has_common_id(one, other.auth.as_slice())
+        || has_common_id(one, other.acct.as_slice())
+        || has_common_id(one, vendor_application_ids(other))
 }
 
 /// Whether the other side takes a connection without security: it names no Inband-Security-Id, or NO_INBAND_SECURITY

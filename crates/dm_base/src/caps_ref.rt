@@ -10,27 +10,27 @@ ghost use Rattle.dm_base.specs.Kinds.{plain_ids, security_ids, application_ids};
 ghost use Rattle.dm_wire.specs.Borrowed.{Lists};
 
 use crate::Node;
-use crate::applications::{is_own, is_relay, sorted_in, specific_ids};
+use crate::applications::{is_own_or_relay_id, is_relay, sorted_ids, vendor_application_ids};
 use crate::codes::NO_INBAND_SECURITY;
 use crate::limits::MAX_IDS;
-use crate::reading::{is_vendor_specific, plain_id, security_id};
+use crate::reading::{is_vendor_specific, plain_application_id, security_id};
 use dm_wire::{AvpRef, AvpsRef, spells_avps};
 
 /// Whether the id that an Auth-Application-Id or Acct-Application-Id tells is an own one.
-fn plain_meets(auth: &[u32], acct: &[u32], specific: &[u32], avp: AvpRef<'_>) -> bool
+fn plain_avp_tells_own_id(auth: &[u32], acct: &[u32], specific: &[u32], avp: AvpRef<'_>) -> bool
     requires auth { IsNonDecreasing auth.now }
     requires acct { IsNonDecreasing acct.now }
     requires specific { IsNonDecreasing specific.now }
     ensures { result ≡ list_any (is_own auth.now acct.now specific.now) (plain_ids (avp_of avp.entry)) }
 {
-    match plain_id(avp) {
-        Some(id) => is_own(auth, acct, specific, id),
+    match plain_application_id(avp) {
+        Some(id) => is_own_or_relay_id(auth, acct, specific, id),
         None => false,
     }
 }
 
 /// Whether an id that the AVPs of a Vendor-Specific-Application-Id tell is an own one.
-fn inside_meets(auth: &[u32], acct: &[u32], specific: &[u32], avps: AvpsRef<'_>) -> bool
+fn members_tell_own_id(auth: &[u32], acct: &[u32], specific: &[u32], avps: AvpsRef<'_>) -> bool
     requires auth { IsNonDecreasing auth.now }
     requires acct { IsNonDecreasing acct.now }
     requires specific { IsNonDecreasing specific.now }
@@ -39,7 +39,7 @@ fn inside_meets(auth: &[u32], acct: &[u32], specific: &[u32], avps: AvpsRef<'_>)
 {
     let mut left = avps;
     while let Some((avp, rest)) = left.split_first() {
-        if plain_meets(auth, acct, specific, avp) {
+        if plain_avp_tells_own_id(auth, acct, specific, avp) {
             return true;
         }
         left = rest;
@@ -49,23 +49,23 @@ fn inside_meets(auth: &[u32], acct: &[u32], specific: &[u32], avps: AvpsRef<'_>)
 
 /// Whether an id that an AVP tells is an own one.
 #[tactic(auto, using(crate::proofs::Ids::none_met, crate::proofs::Ids::some_met))]
-fn avp_meets(auth: &[u32], acct: &[u32], specific: &[u32], avp: AvpRef<'_>) -> bool
+fn avp_tells_own_id(auth: &[u32], acct: &[u32], specific: &[u32], avp: AvpRef<'_>) -> bool
     requires auth { IsNonDecreasing auth.now }
     requires acct { IsNonDecreasing acct.now }
     requires specific { IsNonDecreasing specific.now }
     ensures { result ≡ list_any (is_own auth.now acct.now specific.now) (application_ids (avp_of avp.entry)) }
 {
     if !is_vendor_specific(avp) {
-        return plain_meets(auth, acct, specific, avp);
+        return plain_avp_tells_own_id(auth, acct, specific, avp);
     }
     if !spells_avps(avp.bytes) {
         return false;
     }
-    inside_meets(auth, acct, specific, AvpsRef::Spelled(avp.bytes))
+    members_tell_own_id(auth, acct, specific, AvpsRef::Spelled(avp.bytes))
 }
 
 /// Whether an id that AVPs tell is an own one.
-fn list_meets(auth: &[u32], acct: &[u32], specific: &[u32], avps: AvpsRef<'_>) -> bool
+fn avps_tell_own_id(auth: &[u32], acct: &[u32], specific: &[u32], avps: AvpsRef<'_>) -> bool
     requires auth { IsNonDecreasing auth.now }
     requires acct { IsNonDecreasing acct.now }
     requires specific { IsNonDecreasing specific.now }
@@ -74,7 +74,7 @@ fn list_meets(auth: &[u32], acct: &[u32], specific: &[u32], avps: AvpsRef<'_>) -
 {
     let mut left = avps;
     while let Some((avp, rest)) = left.split_first() {
-        if avp_meets(auth, acct, specific, avp) {
+        if avp_tells_own_id(auth, acct, specific, avp) {
             return true;
         }
         left = rest;
@@ -84,7 +84,7 @@ fn list_meets(auth: &[u32], acct: &[u32], specific: &[u32], avps: AvpsRef<'_>) -
 
 /// Whether AVPs name no Inband-Security-Id, or NO_INBAND_SECURITY among them.
 #[tactic(auto, using(crate::proofs::Securing::no_id, crate::proofs::Securing::other, crate::proofs::Securing::zero))]
-fn list_secure(avps: AvpsRef<'_>) -> bool
+fn allow_no_inband_security(avps: AvpsRef<'_>) -> bool
     ensures { (l : List Avp) → Lists avps.entry l → result ≡ are_secure (flat_map security_ids l) }
 {
     let mut named = false;
@@ -126,16 +126,16 @@ impl CapsRef<'_> {
             return true;
         }
         let (mut auth, mut acct, mut specific) = ([0; MAX_IDS], [0; MAX_IDS], [0; MAX_IDS]);
-        let auth = sorted_in(&mut auth, node.auth.as_slice());
-        let acct = sorted_in(&mut acct, node.acct.as_slice());
-        let specific = sorted_in(&mut specific, specific_ids(node));
-        list_meets(auth, acct, specific, AvpsRef::Spelled(self.rest))
+        let auth = sorted_ids(&mut auth, node.auth.as_slice());
+        let acct = sorted_ids(&mut acct, node.acct.as_slice());
+        let specific = sorted_ids(&mut specific, vendor_application_ids(node));
+        avps_tell_own_id(auth, acct, specific, AvpsRef::Spelled(self.rest))
     }
 
     /// Whether the other side takes a connection without security (RFC 6733, 6.10). It never answers want of memory.
     pub fn secure(&self) -> bool
         ensures { (caps : Caps) → ShowsCaps self.now caps → result ≡ is_secure caps }
     {
-        list_secure(AvpsRef::Spelled(self.rest))
+        allow_no_inband_security(AvpsRef::Spelled(self.rest))
     }
 }

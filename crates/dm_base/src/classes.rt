@@ -9,7 +9,7 @@ ghost use Rattle.dm_base.specs.Kinds.{kind_by, kind, HoldsCopy};
 ghost use Rattle.dm_base.specs.declared.base_fault.BaseFault.TheVariants as faults_of;
 
 use crate::codes::{DISCONNECT_CAUSE, RESULT_CODE};
-use crate::reading::{caps_of, number_at};
+use crate::reading::{caps_of, first_number_or_zero};
 use crate::{BaseCommand, BaseFault, Kind};
 use dm_dict::{Dictionary, NoMemory, Verdict};
 use dm_wire::{AvpsRef, Message};
@@ -24,7 +24,7 @@ pub fn is_base_command(command: u32) -> bool
 }
 
 /// The kind by the command and the R bit.
-fn kind_by(
+fn copied_kind(
     alloc: Global,
     command: BaseCommand,
     request: bool,
@@ -35,11 +35,11 @@ fn kind_by(
 {
     Ok(match command {
         BaseCommand::CapabilitiesExchange if request => Kind::Cer(caps_of(alloc, avps)?),
-        BaseCommand::CapabilitiesExchange => Kind::Cea(number_at(avps, RESULT_CODE)),
+        BaseCommand::CapabilitiesExchange => Kind::Cea(first_number_or_zero(avps, RESULT_CODE)),
         BaseCommand::DeviceWatchdog if request => Kind::Dwr,
         BaseCommand::DeviceWatchdog => Kind::Dwa,
         BaseCommand::DisconnectPeer if request => {
-            Kind::Dpr(number_at(avps, DISCONNECT_CAUSE).cast_signed())
+            Kind::Dpr(first_number_or_zero(avps, DISCONNECT_CAUSE).cast_signed())
         }
         BaseCommand::DisconnectPeer => Kind::Dpa,
     })
@@ -65,7 +65,7 @@ pub fn classify(
         return Ok(Kind::Other);
     };
     match dictionary.check(alloc, message)? {
-        Verdict::Good => Ok(kind_by(
+        Verdict::Good => Ok(copied_kind(
             alloc,
             command,
             message.header.request,

@@ -7,7 +7,7 @@ ghost use Rattle.dm_base.specs.Refusals.{are_extras_long};
 ghost use Rattle.dm_base.specs.declared.extras_fault.ExtrasFault.{ExtrasFault};
 
 use crate::limits::MAX_IDS;
-use crate::node::all_numbers;
+use crate::node::ids_fit_32_bits;
 use crate::{ExtrasFault, IdList, VendorApplication, VendorApplicationList};
 use dm_dict::NoMemory;
 use std::alloc::{AllocError, Global};
@@ -29,7 +29,7 @@ pub struct Extras {
 
 /// The numbers of an application fit 32 bits, as their types say.
 #[tactic(auto, using(crate::proofs::Fitting::application_numbers))]
-fn has_numbers(application: &VendorApplication)
+fn numbers_fit_32_bits(application: &VendorApplication)
     ensures { is_vendor_application application.now ≡ true }
 {
     let _vendor = application.vendor;
@@ -37,22 +37,25 @@ fn has_numbers(application: &VendorApplication)
 }
 
 /// The numbers of all applications fit 32 bits, as their types say.
-fn all_have_numbers(applications: &[VendorApplication])
+fn all_numbers_fit_32_bits(applications: &[VendorApplication])
     ensures { list_all is_vendor_application applications.now ≡ true }
 {
     for application in applications {
-        has_numbers(application);
+        numbers_fit_32_bits(application);
     }
 }
 
 /// A number fits 32 bits, as its type says.
 #[tactic(auto, using(crate::proofs::Fitting::optional_number))]
-fn is_number(number: Option<u32>)
+fn number_fits_32_bits(number: Option<u32>)
     ensures { is_optional_number number ≡ true }
 {}
 
 /// The ids of applications of vendors, in order.
-fn ids_of(alloc: Global, applications: &[VendorApplication]) -> Result<Vec<u32>, NoMemory>
+fn ids_of_applications(
+    alloc: Global,
+    applications: &[VendorApplication],
+) -> Result<Vec<u32>, NoMemory>
     ensures { IfOk result (λ ids. ids.items ≡ ids_of applications.now) }
 {
     let mut ids = Vec::with_capacity(alloc, applications.len())?;
@@ -86,11 +89,11 @@ impl Extras {
         if applications.len() > MAX_IDS || vendors.len() > MAX_IDS {
             return Err(ExtrasFault::TooLong);
         }
-        let ids = ids_of(alloc, applications.as_slice())?;
-        all_have_numbers(applications.as_slice());
-        all_numbers(vendors.as_slice());
-        is_number(firmware);
-        is_number(state_id);
+        let ids = ids_of_applications(alloc, applications.as_slice())?;
+        all_numbers_fit_32_bits(applications.as_slice());
+        ids_fit_32_bits(vendors.as_slice());
+        number_fits_32_bits(firmware);
+        number_fits_32_bits(state_id);
         Ok(Extras {
             applications: VendorApplicationList::from_vec(applications),
             ids: IdList::from_vec(ids),

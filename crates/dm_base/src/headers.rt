@@ -40,7 +40,7 @@ fn header(
 }
 
 /// The header of a request of Application-ID 0, with one number as both identifiers.
-pub(crate) fn request(command: u32, id: u32) -> Header
+pub(crate) fn header_of_request(command: u32, id: u32) -> Header
     ensures header { result ≡ request_header command id }
     ensures fits { command < 256 ^ 3 → HeaderFits (request_header command id) }
 {
@@ -48,7 +48,7 @@ pub(crate) fn request(command: u32, id: u32) -> Header
 }
 
 /// The header of the answer to a request: its command, application and identifiers, and its P bit.
-pub(crate) fn answer(error: bool, to: &Header) -> Header
+pub(crate) fn header_of_answer(error: bool, to: &Header) -> Header
     ensures header { result ≡ answer_header error to.now }
     ensures fits { to.now.command < 256 ^ 3 → HeaderFits to.now }
 {

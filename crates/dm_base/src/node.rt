@@ -34,7 +34,7 @@ pub struct Node {
 }
 
 /// Why there is no node of these parts.
-fn fault_of(
+fn fault_of_parts(
     host: &[u8],
     realm: &[u8],
     addresses: &[Ip],
@@ -62,42 +62,42 @@ fn fault_of(
     None
 }
 
-fn has_4_octets(address: &[u8; 4])
+fn ipv4_has_four_octets(address: &[u8; 4])
     ensures { length address.now ≡ 4 }
 {}
 
-fn has_16_octets(address: &[u8; 16])
+fn ipv6_has_sixteen_octets(address: &[u8; 16])
     ensures { length address.now ≡ 16 }
 {}
 
 /// The address has the octets of its family, as its type says.
-fn has_its_size(ip: &Ip)
+fn address_has_its_size(ip: &Ip)
     ensures { is_sized ip.now ≡ true }
 {
     match ip {
-        Ip::V4(address) => has_4_octets(address),
-        Ip::V6(address) => has_16_octets(address),
+        Ip::V4(address) => ipv4_has_four_octets(address),
+        Ip::V6(address) => ipv6_has_sixteen_octets(address),
     }
 }
 
-/// So have all addresses.
-fn have_their_sizes(addresses: &[Ip])
+/// All addresses have the octets of their families, as their types say.
+fn addresses_have_their_sizes(addresses: &[Ip])
     ensures { list_all is_sized addresses.now ≡ true }
 {
     for ip in addresses {
-        has_its_size(ip);
+        address_has_its_size(ip);
     }
 }
 
 /// The ids fit 32 bits, as their type says.
 #[tactic(auto, using(crate::proofs::Fitting::all_numbers))]
-pub(crate) fn all_numbers(ids: &[u32])
+pub(crate) fn ids_fit_32_bits(ids: &[u32])
     ensures { list_all is_number ids.now ≡ true }
 {}
 
 /// The text is UTF-8, as its type says.
 #[tactic(auto, using(crate::proofs::Fitting::is_text))]
-fn is_text(text: &Text)
+fn text_is_utf8(text: &Text)
     ensures { is_utf8 text.now ≡ true }
 {
     let _text = text.as_str();
@@ -133,7 +133,7 @@ impl Node {
         ensures extras { IfOk result (λ node. node.extras ≡ None) }
     {
         let product = Text::from_string(product);
-        match fault_of(
+        match fault_of_parts(
             host.as_slice(),
             realm.as_slice(),
             addresses.as_slice(),
@@ -143,10 +143,10 @@ impl Node {
         ) {
             Some(fault) => Err(fault),
             None => {
-                have_their_sizes(addresses.as_slice());
-                all_numbers(auth.as_slice());
-                all_numbers(acct.as_slice());
-                is_text(&product);
+                addresses_have_their_sizes(addresses.as_slice());
+                ids_fit_32_bits(auth.as_slice());
+                ids_fit_32_bits(acct.as_slice());
+                text_is_utf8(&product);
                 Ok(Node {
                     host: Octets::from_vec(host),
                     realm: Octets::from_vec(realm),

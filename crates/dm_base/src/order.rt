@@ -17,7 +17,7 @@ pub fn lower_octet(octet: u8) -> u8
 
 /// The order of the octets with `A` to `Z` taken as `a` to `z`.
 #[tactic(auto, using(crate::proofs::Orders::ended_less, crate::proofs::Orders::ended_greater))]
-fn compare(one: &[u8], other: &[u8]) -> Ordering
+fn compare_ignoring_case(one: &[u8], other: &[u8]) -> Ordering
     ensures { result ≡ order_of_hosts (lower one.now) (lower other.now) }
 {
     let mut at = 0;
@@ -50,5 +50,5 @@ pub fn host_order(one: &[u8], other: &[u8]) -> Ordering
     ensures greater { (result ≡ Ordering.Greater) ↔ Before other.now one.now }
     ensures equal { (result ≡ Ordering.Equal) ↔ (lower one.now ≡ lower other.now) }
 {
-    compare(one, other)
+    compare_ignoring_case(one, other)
 }

@@ -27,21 +27,21 @@ use std::slice;
 const LONGEST_ADDRESS: usize = 18;
 
 /// An AVP without vendor, with the M bit, of these octets, which are moved and not copied.
-fn holding(code: u32, octets: Vec<u8>) -> Avp
+fn avp_of_octets(code: u32, octets: Vec<u8>) -> Avp
     ensures { result ≡ avp code octets.items }
 {
     Avp::new(code, None, true, Octets::from_vec(octets))
 }
 
 /// An AVP without vendor, with the M bit.
-fn plain(alloc: Global, code: u32, octets: &[u8]) -> Result<Avp, NoMemory>
+fn avp_of_copied_octets(alloc: Global, code: u32, octets: &[u8]) -> Result<Avp, NoMemory>
     ensures { IfOk result (λ a. a ≡ avp code octets.now) }
 {
-    Ok(holding(code, Vec::from_slice(alloc, octets)?))
+    Ok(avp_of_octets(code, Vec::from_slice(alloc, octets)?))
 }
 
 /// An AVP without vendor, with the M bit, of these octets where they lie.
-pub(crate) fn borrowed(code: u32, bytes: &[u8]) -> AvpRef<'_>
+pub(crate) fn borrowed_avp(code: u32, bytes: &[u8]) -> AvpRef<'_>
     ensures { avp_of result ≡ avp code bytes.now }
 {
     AvpRef {
@@ -54,14 +54,14 @@ pub(crate) fn borrowed(code: u32, bytes: &[u8]) -> AvpRef<'_>
 }
 
 /// An AVP of type Unsigned32 or Enumerated.
-pub(crate) fn number(alloc: Global, code: u32, number: u32) -> Result<Avp, NoMemory>
+pub(crate) fn unsigned32_avp(alloc: Global, code: u32, number: u32) -> Result<Avp, NoMemory>
     ensures { IfOk result (λ a. a ≡ number_avp code number) }
 {
-    plain(alloc, code, &number.to_be_bytes())
+    avp_of_copied_octets(alloc, code, &number.to_be_bytes())
 }
 
 /// Two octets of address family, then the address (RFC 6733, 4.3.1).
-fn of_family(alloc: Global, family: u8, address: &[u8]) -> Result<Vec<u8>, NoMemory>
+fn octets_of_address(alloc: Global, family: u8, address: &[u8]) -> Result<Vec<u8>, NoMemory>
     ensures { IfOk result (λ octets. octets.items ≡ 0 ∷ family ∷ address.now) }
 {
     let mut octets = Vec::with_capacity(alloc, LONGEST_ADDRESS)?;
@@ -71,14 +71,14 @@ fn of_family(alloc: Global, family: u8, address: &[u8]) -> Result<Vec<u8>, NoMem
 }
 
 /// A Host-IP-Address (RFC 6733, 5.3.5).
-fn address(alloc: Global, ip: &Ip) -> Result<Avp, NoMemory>
+fn host_ip_address_avp(alloc: Global, ip: &Ip) -> Result<Avp, NoMemory>
     ensures { IfOk result (λ a. a ≡ address_avp ip.now) }
 {
     let octets = match ip {
-        Ip::V4(address) => of_family(alloc, 1, address)?,
-        Ip::V6(address) => of_family(alloc, 2, address)?,
+        Ip::V4(address) => octets_of_address(alloc, 1, address)?,
+        Ip::V6(address) => octets_of_address(alloc, 2, address)?,
     };
-    Ok(holding(HOST_IP_ADDRESS, octets))
+    Ok(avp_of_octets(HOST_IP_ADDRESS, octets))
 }
 
 /// A Host-IP-Address for each address, appended.
@@ -86,7 +86,7 @@ fn put_addresses(alloc: Global, avps: &mut Vec<Avp>, addresses: &[Ip]) -> Result
     ensures { OnOk result (avps.new.items ≡ avps.old.items ++ map address_avp addresses.now) }
 {
     for ip in addresses {
-        avps.push(address(alloc, ip)?)?;
+        avps.push(host_ip_address_avp(alloc, ip)?)?;
     }
     Ok(())
 }
@@ -96,7 +96,7 @@ fn put_numbers(alloc: Global, avps: &mut Vec<Avp>, code: u32, ids: &[u32]) -> Re
     ensures { OnOk result (avps.new.items ≡ avps.old.items ++ map (number_avp code) ids.now) }
 {
     for id in ids {
-        avps.push(number(alloc, code, *id)?)?;
+        avps.push(unsigned32_avp(alloc, code, *id)?)?;
     }
     Ok(())
 }
@@ -105,13 +105,13 @@ fn put_numbers(alloc: Global, avps: &mut Vec<Avp>, code: u32, ids: &[u32]) -> Re
 pub(crate) fn put_origin(alloc: Global, avps: &mut Vec<Avp>, node: &Node) -> Result<(), NoMemory>
     ensures { OnOk result (avps.new.items ≡ avps.old.items ++ origin node.now []) }
 {
-    avps.push(plain(alloc, ORIGIN_HOST, node.host.as_slice())?)?;
-    avps.push(plain(alloc, ORIGIN_REALM, node.realm.as_slice())?)?;
+    avps.push(avp_of_copied_octets(alloc, ORIGIN_HOST, node.host.as_slice())?)?;
+    avps.push(avp_of_copied_octets(alloc, ORIGIN_REALM, node.realm.as_slice())?)?;
     Ok(())
 }
 
 /// The canonical octets of an AVP that is short enough to have some.
-fn spelled(alloc: Global, avp: &Avp) -> Result<Vec<u8>, NoMemory>
+fn octets_of_avp(alloc: Global, avp: &Avp) -> Result<Vec<u8>, NoMemory>
     ensures { IfOk result (λ octets. octets.items ≡ canonical_avp avp.now) }
 {
     match encode_avps(alloc, slice::from_ref(avp)) {
@@ -121,7 +121,7 @@ fn spelled(alloc: Global, avp: &Avp) -> Result<Vec<u8>, NoMemory>
 }
 
 /// Whether a failed AVP is short enough to be handed back.
-fn is_short(avp: &Avp) -> bool
+fn fits_failed_avp(avp: &Avp) -> bool
     ensures { result ≡ nat_le (avp_length avp.now) longest_failed }
 {
     match avp.wire_len() {
@@ -131,7 +131,7 @@ fn is_short(avp: &Avp) -> bool
 }
 
 /// A Failed-AVP that holds the failed AVP, appended, where there is one that isn't too long.
-pub(crate) fn put_failed(
+pub(crate) fn put_failed_avp(
     alloc: Global,
     avps: &mut Vec<Avp>,
     failed: Option<&Avp>,
@@ -139,8 +139,8 @@ pub(crate) fn put_failed(
     ensures { OnOk result (avps.new.items ≡ avps.old.items ++ failed_avps (option_copied failed.entry)) }
 {
     if let Some(avp) = failed {
-        if is_short(avp) {
-            avps.push(holding(FAILED_AVP, spelled(alloc, avp)?))?;
+        if fits_failed_avp(avp) {
+            avps.push(avp_of_octets(FAILED_AVP, octets_of_avp(alloc, avp)?))?;
         }
     }
     Ok(())
@@ -150,14 +150,14 @@ pub(crate) fn put_failed(
 fn put_product(alloc: Global, avps: &mut Vec<Avp>, node: &Node) -> Result<(), NoMemory>
     ensures { OnOk result (avps.new.items ≡ avps.old.items ++ product_avp node.now.product ∷ []) }
 {
-    let mut avp = plain(alloc, PRODUCT_NAME, node.product.as_str().as_bytes())?;
+    let mut avp = avp_of_copied_octets(alloc, PRODUCT_NAME, node.product.as_str().as_bytes())?;
     avp.mandatory = false;
     avps.push(avp)?;
     Ok(())
 }
 
 /// Origin-State-Id, appended, where there is a number for it (RFC 6733, 8.16).
-pub(crate) fn put_state(
+pub(crate) fn put_origin_state_id(
     alloc: Global,
     avps: &mut Vec<Avp>,
     state: Option<u32>,
@@ -165,7 +165,7 @@ pub(crate) fn put_state(
     ensures { OnOk result (avps.new.items ≡ avps.old.items ++ state_avps state) }
 {
     if let Some(state) = state {
-        avps.push(number(alloc, ORIGIN_STATE_ID, state)?)?;
+        avps.push(unsigned32_avp(alloc, ORIGIN_STATE_ID, state)?)?;
     }
     Ok(())
 }
@@ -175,7 +175,7 @@ fn put_firmware(alloc: Global, avps: &mut Vec<Avp>, firmware: Option<u32>) -> Re
     ensures { OnOk result (avps.new.items ≡ avps.old.items ++ firmware_avps firmware) }
 {
     if let Some(firmware) = firmware {
-        let mut revision = number(alloc, FIRMWARE_REVISION, firmware)?;
+        let mut revision = unsigned32_avp(alloc, FIRMWARE_REVISION, firmware)?;
         revision.mandatory = false;
         avps.push(revision)?;
     }
@@ -194,7 +194,7 @@ fn id_code(accounting: bool) -> u32
 }
 
 /// The AVP, appended; or want of memory, also where its Length doesn't fit its field.
-fn put_short(out: &mut Vec<u8>, avp: AvpRef<'_>) -> Result<(), NoMemory>
+fn push_avp_or_no_memory(out: &mut Vec<u8>, avp: AvpRef<'_>) -> Result<(), NoMemory>
     ensures { OnOk result (out.new.items ≡ out.old.items ++ canonical_avp (avp_of avp.entry)) }
 {
     match push_avp(out, avp) {
@@ -204,7 +204,10 @@ fn put_short(out: &mut Vec<u8>, avp: AvpRef<'_>) -> Result<(), NoMemory>
 }
 
 /// The octets of a Vendor-Specific-Application-Id: Vendor-Id, and the id (RFC 6733, 6.11).
-fn specific_octets(alloc: Global, application: &VendorApplication) -> Result<Vec<u8>, NoMemory>
+fn octets_of_vendor_application(
+    alloc: Global,
+    application: &VendorApplication,
+) -> Result<Vec<u8>, NoMemory>
     ensures { IfOk result (λ octets. octets.items ≡ canonical_list
         (number_avp vendor_id application.now.vendor
         ∷ number_avp (id_code application.now.accounting) application.now.application ∷ [])) }
@@ -212,22 +215,25 @@ fn specific_octets(alloc: Global, application: &VendorApplication) -> Result<Vec
     let vendor = application.vendor.to_be_bytes();
     let id = application.application.to_be_bytes();
     let mut octets = Vec::with_capacity(alloc, 24)?;
-    put_short(&mut octets, borrowed(VENDOR_ID, &vendor))?;
-    put_short(&mut octets, borrowed(id_code(application.accounting), &id))?;
+    push_avp_or_no_memory(&mut octets, borrowed_avp(VENDOR_ID, &vendor))?;
+    push_avp_or_no_memory(
+        &mut octets,
+        borrowed_avp(id_code(application.accounting), &id),
+    )?;
     Ok(octets)
 }
 
 /// A Vendor-Specific-Application-Id (RFC 6733, 6.11).
 #[tactic(auto, unfolding(crate::specs::Built::specific_avp))]
-fn specific(alloc: Global, application: &VendorApplication) -> Result<Avp, NoMemory>
+fn vendor_application_avp(alloc: Global, application: &VendorApplication) -> Result<Avp, NoMemory>
     ensures { IfOk result (λ a. a ≡ specific_avp application.now) }
 {
-    let octets = specific_octets(alloc, application)?;
-    Ok(holding(VENDOR_SPECIFIC_APPLICATION_ID, octets))
+    let octets = octets_of_vendor_application(alloc, application)?;
+    Ok(avp_of_octets(VENDOR_SPECIFIC_APPLICATION_ID, octets))
 }
 
 /// A Vendor-Specific-Application-Id for each application of a vendor (RFC 6733, 6.11), appended.
-fn put_specific(
+fn put_vendor_applications(
     alloc: Global,
     avps: &mut Vec<Avp>,
     applications: &[VendorApplication],
@@ -235,14 +241,14 @@ fn put_specific(
     ensures { OnOk result (avps.new.items ≡ avps.old.items ++ map specific_avp applications.now) }
 {
     for application in applications {
-        avps.push(specific(alloc, application)?)?;
+        avps.push(vendor_application_avp(alloc, application)?)?;
     }
     Ok(())
 }
 
 /// No fewer AVPs than the applications of vendors and the supported vendors take.
 #[tactic(auto, using(crate::proofs::Fitting::few_applications, crate::proofs::Fitting::few_ids))]
-fn extra_avps(node: &Node) -> usize
+fn extras_avp_bound(node: &Node) -> usize
     ensures { result ≤ 512 }
 {
     match &node.extras {
@@ -254,11 +260,11 @@ fn extra_avps(node: &Node) -> usize
 /// No fewer AVPs than a capabilities exchange has: 9, and one for each address, id, application of a vendor and
 /// supported vendor.
 #[tactic(auto, using(crate::proofs::Fitting::few_addresses, crate::proofs::Fitting::few_ids))]
-pub(crate) fn most_avps(node: &Node) -> usize {
+pub(crate) fn avp_count_bound(node: &Node) -> usize {
     let addresses = node.addresses.as_slice().len();
     let auth = node.auth.as_slice().len();
     let acct = node.acct.as_slice().len();
-    9 + addresses + auth + acct + extra_avps(node)
+    9 + addresses + auth + acct + extras_avp_bound(node)
 }
 
 /// The number of the node's state, where it has one.
@@ -284,7 +290,7 @@ pub(crate) fn answer_state(node: &Node, command: u32) -> Option<u32>
 }
 
 /// Supported-Vendor-Ids, appended (RFC 6733, 5.3.6).
-fn put_vendors(alloc: Global, avps: &mut Vec<Avp>, node: &Node) -> Result<(), NoMemory>
+fn put_supported_vendors(alloc: Global, avps: &mut Vec<Avp>, node: &Node) -> Result<(), NoMemory>
     ensures { OnOk result (avps.new.items
         ≡ avps.old.items ++ map (number_avp supported_vendor_id) (supported_vendors node.now.extras)) }
 {
@@ -295,29 +301,37 @@ fn put_vendors(alloc: Global, avps: &mut Vec<Avp>, node: &Node) -> Result<(), No
 }
 
 /// Vendor-Specific-Application-Ids and Firmware-Revision, appended.
-fn put_last(alloc: Global, avps: &mut Vec<Avp>, node: &Node) -> Result<(), NoMemory>
+fn put_specific_and_firmware(
+    alloc: Global,
+    avps: &mut Vec<Avp>,
+    node: &Node,
+) -> Result<(), NoMemory>
     ensures { OnOk result (avps.new.items ≡ avps.old.items
         ++ map specific_avp (vendor_applications node.now.extras) ++ firmware_avps (own_firmware node.now.extras)) }
 {
     if let Some(extras) = &node.extras {
-        put_specific(alloc, avps, extras.applications.as_slice())?;
+        put_vendor_applications(alloc, avps, extras.applications.as_slice())?;
         put_firmware(alloc, avps, extras.firmware)?;
     }
     Ok(())
 }
 
 /// The applications and Firmware-Revision, appended.
-fn put_applications(alloc: Global, avps: &mut Vec<Avp>, node: &Node) -> Result<(), NoMemory>
+fn put_applications_and_firmware(
+    alloc: Global,
+    avps: &mut Vec<Avp>,
+    node: &Node,
+) -> Result<(), NoMemory>
     ensures { OnOk result (avps.new.items ≡ avps.old.items ++ application_avps node.now) }
 {
     put_numbers(alloc, avps, AUTH_APPLICATION_ID, node.auth.as_slice())?;
     put_numbers(alloc, avps, ACCT_APPLICATION_ID, node.acct.as_slice())?;
-    put_last(alloc, avps, node)?;
+    put_specific_and_firmware(alloc, avps, node)?;
     Ok(())
 }
 
 /// What stands behind Product-Name, appended.
-fn put_behind_product(
+fn put_avps_after_product(
     alloc: Global,
     avps: &mut Vec<Avp>,
     node: &Node,
@@ -327,10 +341,10 @@ fn put_behind_product(
         ++ (state_avps (own_state node.now.extras)
         ++ (failed_avps (option_copied failed.entry) ++ behind_failed node.now))) }
 {
-    put_state(alloc, avps, own_state(node))?;
-    put_failed(alloc, avps, failed)?;
-    put_vendors(alloc, avps, node)?;
-    put_applications(alloc, avps, node)?;
+    put_origin_state_id(alloc, avps, own_state(node))?;
+    put_failed_avp(alloc, avps, failed)?;
+    put_supported_vendors(alloc, avps, node)?;
+    put_applications_and_firmware(alloc, avps, node)?;
     Ok(())
 }
 
@@ -346,8 +360,8 @@ pub(crate) fn put_capabilities(
 {
     put_origin(alloc, avps, node)?;
     put_addresses(alloc, avps, node.addresses.as_slice())?;
-    avps.push(number(alloc, VENDOR_ID, node.vendor)?)?;
+    avps.push(unsigned32_avp(alloc, VENDOR_ID, node.vendor)?)?;
     put_product(alloc, avps, node)?;
-    put_behind_product(alloc, avps, node, failed)?;
+    put_avps_after_product(alloc, avps, node, failed)?;
     Ok(())
 }

@@ -20,19 +20,19 @@ use dm_wire::{AvpRef, AvpsRef, Octets, spells_avps};
 use std::alloc::Global;
 
 /// Whether the AVP has this code and no vendor.
-pub(crate) fn is_plain(avp: AvpRef<'_>, code: u32) -> bool
+pub(crate) fn has_code_and_no_vendor(avp: AvpRef<'_>, code: u32) -> bool
     ensures { result ≡ is_plain code (avp_of avp.entry) }
 {
     avp.code == code && avp.vendor.is_none()
 }
 
 /// The data of the first AVP of this code; where there is none, no octets.
-pub(crate) fn data_at<'a>(avps: AvpsRef<'a>, code: u32) -> &'a [u8]
+pub(crate) fn first_data_of_code<'a>(avps: AvpsRef<'a>, code: u32) -> &'a [u8]
     ensures { (l : List Avp) → Lists avps.entry l → result.now ≡ data_at code l }
 {
     let mut left = avps;
     while let Some((avp, rest)) = left.split_first() {
-        if is_plain(avp, code) {
+        if has_code_and_no_vendor(avp, code) {
             return avp.bytes;
         }
         left = rest;
@@ -41,7 +41,7 @@ pub(crate) fn data_at<'a>(avps: AvpsRef<'a>, code: u32) -> &'a [u8]
 }
 
 /// The number of four octets.
-pub(crate) fn number_in(octets: &[u8]) -> Option<u32>
+pub(crate) fn number_of_four_octets(octets: &[u8]) -> Option<u32>
     ensures { result ≡ number_in octets.now }
 {
     if octets.len() == 4 {
@@ -52,18 +52,20 @@ pub(crate) fn number_in(octets: &[u8]) -> Option<u32>
 }
 
 /// The number of the first AVP of this code, or 0.
-pub(crate) fn number_at(avps: AvpsRef<'_>, code: u32) -> u32
+pub(crate) fn first_number_or_zero(avps: AvpsRef<'_>, code: u32) -> u32
     ensures { (l : List Avp) → Lists avps.entry l → result ≡ number_at code l }
 {
-    number_in(data_at(avps, code)).unwrap_or(0)
+    number_of_four_octets(first_data_of_code(avps, code)).unwrap_or(0)
 }
 
 /// The id that an Auth-Application-Id or Acct-Application-Id tells.
-pub(crate) fn plain_id(avp: AvpRef<'_>) -> Option<u32>
+pub(crate) fn plain_application_id(avp: AvpRef<'_>) -> Option<u32>
     ensures { result ≡ plain_id (avp_of avp.entry) }
 {
-    if is_plain(avp, AUTH_APPLICATION_ID) || is_plain(avp, ACCT_APPLICATION_ID) {
-        number_in(avp.bytes)
+    if has_code_and_no_vendor(avp, AUTH_APPLICATION_ID)
+        || has_code_and_no_vendor(avp, ACCT_APPLICATION_ID)
+    {
+        number_of_four_octets(avp.bytes)
     } else {
         None
     }
@@ -73,8 +75,8 @@ pub(crate) fn plain_id(avp: AvpRef<'_>) -> Option<u32>
 pub(crate) fn security_id(avp: AvpRef<'_>) -> Option<u32>
     ensures { result ≡ security_id (avp_of avp.entry) }
 {
-    if is_plain(avp, INBAND_SECURITY_ID) {
-        number_in(avp.bytes)
+    if has_code_and_no_vendor(avp, INBAND_SECURITY_ID) {
+        number_of_four_octets(avp.bytes)
     } else {
         None
     }
@@ -84,11 +86,11 @@ pub(crate) fn security_id(avp: AvpRef<'_>) -> Option<u32>
 pub(crate) fn is_vendor_specific(avp: AvpRef<'_>) -> bool
     ensures { result ≡ is_plain vendor_specific_application_id (avp_of avp.entry) }
 {
-    is_plain(avp, VENDOR_SPECIFIC_APPLICATION_ID)
+    has_code_and_no_vendor(avp, VENDOR_SPECIFIC_APPLICATION_ID)
 }
 
 /// The id, appended, where there is one.
-pub(crate) fn put_id(ids: &mut Vec<u32>, id: Option<u32>) -> Result<(), NoMemory>
+pub(crate) fn push_id_if_some(ids: &mut Vec<u32>, id: Option<u32>) -> Result<(), NoMemory>
     ensures put { OnOk result (ids.new.items ≡ ids.old.items ++ option_to_list id) }
     ensures memory { OnErr result (option_to_list id ≢ []) }
 {
@@ -99,14 +101,14 @@ pub(crate) fn put_id(ids: &mut Vec<u32>, id: Option<u32>) -> Result<(), NoMemory
 }
 
 /// The ids of the AVPs of a Vendor-Specific-Application-Id, appended.
-fn put_inside(ids: &mut Vec<u32>, avps: AvpsRef<'_>) -> Result<(), NoMemory>
+fn push_ids_of_members(ids: &mut Vec<u32>, avps: AvpsRef<'_>) -> Result<(), NoMemory>
     ensures put { (l : List Avp) → Lists avps.entry l
         → OnOk result (ids.new.items ≡ ids.old.items ++ flat_map plain_ids l) }
     ensures memory { (l : List Avp) → Lists avps.entry l → OnErr result (flat_map plain_ids l ≢ []) }
 {
     let mut left = avps;
     while let Some((avp, rest)) = left.split_first() {
-        put_id(ids, plain_id(avp))?;
+        push_id_if_some(ids, plain_application_id(avp))?;
         left = rest;
     }
     Ok(())
@@ -114,60 +116,60 @@ fn put_inside(ids: &mut Vec<u32>, avps: AvpsRef<'_>) -> Result<(), NoMemory>
 
 /// The ids of applications that an AVP tells, appended.
 #[tactic(auto, using(crate::proofs::Ids::none_inside, crate::proofs::Ids::all_inside, crate::proofs::Ids::some_inside))]
-fn put_told(ids: &mut Vec<u32>, avp: AvpRef<'_>) -> Result<(), NoMemory>
+fn push_ids_of_avp(ids: &mut Vec<u32>, avp: AvpRef<'_>) -> Result<(), NoMemory>
     ensures put { OnOk result (ids.new.items ≡ ids.old.items ++ application_ids (avp_of avp.entry)) }
     ensures memory { OnErr result (application_ids (avp_of avp.entry) ≢ []) }
 {
     if !is_vendor_specific(avp) {
-        return put_id(ids, plain_id(avp));
+        return push_id_if_some(ids, plain_application_id(avp));
     }
     if !spells_avps(avp.bytes) {
         return Ok(());
     }
-    put_inside(ids, AvpsRef::Spelled(avp.bytes))
+    push_ids_of_members(ids, AvpsRef::Spelled(avp.bytes))
 }
 
 /// The ids of applications that AVPs tell, appended.
-fn put_applications(ids: &mut Vec<u32>, avps: AvpsRef<'_>) -> Result<(), NoMemory>
+fn push_application_ids(ids: &mut Vec<u32>, avps: AvpsRef<'_>) -> Result<(), NoMemory>
     ensures put { (l : List Avp) → Lists avps.entry l
         → OnOk result (ids.new.items ≡ ids.old.items ++ flat_map application_ids l) }
     ensures memory { (l : List Avp) → Lists avps.entry l → OnErr result (flat_map application_ids l ≢ []) }
 {
     let mut left = avps;
     while let Some((avp, rest)) = left.split_first() {
-        put_told(ids, avp)?;
+        push_ids_of_avp(ids, avp)?;
         left = rest;
     }
     Ok(())
 }
 
 /// The Inband-Security-Ids that AVPs tell, appended.
-fn put_security(ids: &mut Vec<u32>, avps: AvpsRef<'_>) -> Result<(), NoMemory>
+fn push_security_ids(ids: &mut Vec<u32>, avps: AvpsRef<'_>) -> Result<(), NoMemory>
     ensures { (l : List Avp) → Lists avps.entry l
         → OnOk result (ids.new.items ≡ ids.old.items ++ flat_map security_ids l) }
 {
     let mut left = avps;
     while let Some((avp, rest)) = left.split_first() {
-        put_id(ids, security_id(avp))?;
+        push_id_if_some(ids, security_id(avp))?;
         left = rest;
     }
     Ok(())
 }
 
-pub(crate) fn applications(alloc: Global, avps: AvpsRef<'_>) -> Result<IdList, NoMemory>
+pub(crate) fn read_application_ids(alloc: Global, avps: AvpsRef<'_>) -> Result<IdList, NoMemory>
     ensures ids { (l : List Avp) → Lists avps.entry l → IfOk result (λ ids. ids ≡ flat_map application_ids l) }
     ensures memory { (l : List Avp) → Lists avps.entry l → OnErr result (flat_map application_ids l ≢ []) }
 {
     let mut ids = Vec::new(alloc);
-    put_applications(&mut ids, avps)?;
+    push_application_ids(&mut ids, avps)?;
     Ok(IdList::from_vec(ids))
 }
 
-fn security(alloc: Global, avps: AvpsRef<'_>) -> Result<IdList, NoMemory>
+fn read_security_ids(alloc: Global, avps: AvpsRef<'_>) -> Result<IdList, NoMemory>
     ensures { (l : List Avp) → Lists avps.entry l → IfOk result (λ ids. ids ≡ flat_map security_ids l) }
 {
     let mut ids = Vec::new(alloc);
-    put_security(&mut ids, avps)?;
+    push_security_ids(&mut ids, avps)?;
     Ok(IdList::from_vec(ids))
 }
 
@@ -176,9 +178,9 @@ pub(crate) fn caps_of(alloc: Global, avps: AvpsRef<'_>) -> Result<Caps, NoMemory
     ensures { (l : List Avp) → Lists avps.entry l → IfOk result (λ caps. caps ≡ caps_of l) }
 {
     Ok(Caps {
-        host: Octets::from_slice(alloc, data_at(avps, ORIGIN_HOST))?,
-        realm: Octets::from_slice(alloc, data_at(avps, ORIGIN_REALM))?,
-        applications: applications(alloc, avps)?,
-        security: security(alloc, avps)?,
+        host: Octets::from_slice(alloc, first_data_of_code(avps, ORIGIN_HOST))?,
+        realm: Octets::from_slice(alloc, first_data_of_code(avps, ORIGIN_REALM))?,
+        applications: read_application_ids(alloc, avps)?,
+        security: read_security_ids(alloc, avps)?,
     })
 }

@@ -6,9 +6,11 @@ ghost use Rattle.dm_base.specs.Kinds.{IsBase};
 ghost use Rattle.dm_base.specs.Built.{cause_number, own_caps, built_cer, built_dwr, built_dpr};
 
 use crate::codes::{CAPABILITIES_EXCHANGE, DEVICE_WATCHDOG, DISCONNECT_CAUSE, DISCONNECT_PEER};
-use crate::headers::request;
+use crate::headers::header_of_request;
 use crate::laws::built_is_spelled;
-use crate::parts::{most_avps, number, own_state, put_capabilities, put_origin, put_state};
+use crate::parts::{
+    avp_count_bound, own_state, put_capabilities, put_origin, put_origin_state_id, unsigned32_avp,
+};
 use crate::{Cause, Node};
 use dm_dict::NoMemory;
 use dm_wire::{AvpList, Message};
@@ -24,8 +26,8 @@ pub fn cer(alloc: Global, node: &Node, id: u32) -> Result<Message, NoMemory>
     ensures kind { IsBase (built_cer node.now id) (kinds.Cer (own_caps node.now)) }
 {
     built_is_spelled();
-    let header = request(CAPABILITIES_EXCHANGE, id);
-    let mut avps = Vec::with_capacity(alloc, most_avps(node))?;
+    let header = header_of_request(CAPABILITIES_EXCHANGE, id);
+    let mut avps = Vec::with_capacity(alloc, avp_count_bound(node))?;
     put_capabilities(alloc, &mut avps, node, None)?;
     Ok(Message {
         header,
@@ -42,10 +44,10 @@ pub fn dwr(alloc: Global, node: &Node, id: u32) -> Result<Message, NoMemory>
     ensures kind { IsBase (built_dwr node.now id) kinds.Dwr }
 {
     built_is_spelled();
-    let header = request(DEVICE_WATCHDOG, id);
+    let header = header_of_request(DEVICE_WATCHDOG, id);
     let mut avps = Vec::with_capacity(alloc, 3)?;
     put_origin(alloc, &mut avps, node)?;
-    put_state(alloc, &mut avps, own_state(node))?;
+    put_origin_state_id(alloc, &mut avps, own_state(node))?;
     Ok(Message {
         header,
         avps: AvpList::from_vec(avps),
@@ -61,10 +63,10 @@ pub fn dpr(alloc: Global, node: &Node, id: u32, cause: Cause) -> Result<Message,
     ensures kind { IsBase (built_dpr node.now id cause) (kinds.Dpr (pos (cause_number cause))) }
 {
     built_is_spelled();
-    let header = request(DISCONNECT_PEER, id);
+    let header = header_of_request(DISCONNECT_PEER, id);
     let mut avps = Vec::with_capacity(alloc, 3)?;
     put_origin(alloc, &mut avps, node)?;
-    avps.push(number(alloc, DISCONNECT_CAUSE, cause as u32)?)?;
+    avps.push(unsigned32_avp(alloc, DISCONNECT_CAUSE, cause as u32)?)?;
     Ok(Message {
         header,
         avps: AvpList::from_vec(avps),

@@ -12,7 +12,10 @@ use crate::codes::{
     CAPABILITIES_EXCHANGE, DISCONNECT_CAUSE, DISCONNECT_PEER, FIRMWARE_REVISION, ORIGIN_HOST,
     ORIGIN_REALM, ORIGIN_STATE_ID, PRODUCT_NAME, SUPPORTED_VENDOR_ID, VENDOR_ID,
 };
-use crate::reading::{applications, data_at, is_plain, number_in, put_id};
+use crate::reading::{
+    first_data_of_code, has_code_and_no_vendor, number_of_four_octets, push_id_if_some,
+    read_application_ids,
+};
 use crate::views::spells_members;
 use crate::{IdList, SenderRef};
 use dm_dict::NoMemory;
@@ -20,32 +23,36 @@ use dm_wire::{AvpRef, AvpsRef, MessageRef};
 use std::alloc::Global;
 
 /// The number of an AVP of this code.
-fn number_of(avp: AvpRef<'_>, code: u32) -> Option<u32>
+fn number_if_of_code(avp: AvpRef<'_>, code: u32) -> Option<u32>
     ensures { result ≡ plain_number code (avp_of avp.entry) }
 {
-    if is_plain(avp, code) {
-        number_in(avp.bytes)
+    if has_code_and_no_vendor(avp, code) {
+        number_of_four_octets(avp.bytes)
     } else {
         None
     }
 }
 
 /// The number of the first AVP of this code.
-fn number_told(avps: AvpsRef<'_>, code: u32) -> Option<u32>
+fn first_number_of_code(avps: AvpsRef<'_>, code: u32) -> Option<u32>
     ensures { (l : List Avp) → Lists avps.entry l → result ≡ number_told code l }
 {
-    number_in(data_at(avps, code))
+    number_of_four_octets(first_data_of_code(avps, code))
 }
 
 /// The numbers of all AVPs of this code, appended.
-fn put_told(ids: &mut Vec<u32>, avps: AvpsRef<'_>, code: u32) -> Result<(), NoMemory>
+fn push_all_numbers_of_code(
+    ids: &mut Vec<u32>,
+    avps: AvpsRef<'_>,
+    code: u32,
+) -> Result<(), NoMemory>
     ensures put { (l : List Avp) → Lists avps.entry l
         → OnOk result (ids.new.items ≡ ids.old.items ++ numbers_told code l) }
     ensures memory { (l : List Avp) → Lists avps.entry l → OnErr result (numbers_told code l ≢ []) }
 {
     let mut left = avps;
     while let Some((avp, rest)) = left.split_first() {
-        put_id(ids, number_of(avp, code))?;
+        push_id_if_some(ids, number_if_of_code(avp, code))?;
         left = rest;
     }
     Ok(())
@@ -61,35 +68,35 @@ impl<'a> SenderRef<'a> {
     pub fn host(&self) -> &'a [u8]
         ensures { (l : List Avp) → HasAvps self.now l → result.now ≡ data_at origin_host l }
     {
-        data_at(AvpsRef::Spelled(self.rest), ORIGIN_HOST)
+        first_data_of_code(AvpsRef::Spelled(self.rest), ORIGIN_HOST)
     }
 
     /// The first Origin-Realm; where there is none, no octets (6.4). It never answers want of memory.
     pub fn realm(&self) -> &'a [u8]
         ensures { (l : List Avp) → HasAvps self.now l → result.now ≡ data_at origin_realm l }
     {
-        data_at(AvpsRef::Spelled(self.rest), ORIGIN_REALM)
+        first_data_of_code(AvpsRef::Spelled(self.rest), ORIGIN_REALM)
     }
 
     /// The octets of the first Product-Name; where there is none, no octets (5.3.7). It never answers want of memory.
     pub fn product(&self) -> &'a [u8]
         ensures { (l : List Avp) → HasAvps self.now l → result.now ≡ data_at product_name l }
     {
-        data_at(AvpsRef::Spelled(self.rest), PRODUCT_NAME)
+        first_data_of_code(AvpsRef::Spelled(self.rest), PRODUCT_NAME)
     }
 
     /// The number of the first Vendor-Id, where it has four octets (5.3.3). It never answers want of memory.
     pub fn vendor(&self) -> Option<u32>
         ensures { (l : List Avp) → HasAvps self.now l → result ≡ number_told vendor_id l }
     {
-        number_told(AvpsRef::Spelled(self.rest), VENDOR_ID)
+        first_number_of_code(AvpsRef::Spelled(self.rest), VENDOR_ID)
     }
 
     /// The number of the first Firmware-Revision, where it has four octets (5.3.4). It never answers want of memory.
     pub fn firmware(&self) -> Option<u32>
         ensures { (l : List Avp) → HasAvps self.now l → result ≡ number_told firmware_revision l }
     {
-        number_told(AvpsRef::Spelled(self.rest), FIRMWARE_REVISION)
+        first_number_of_code(AvpsRef::Spelled(self.rest), FIRMWARE_REVISION)
     }
 
     /// The number of the first Origin-State-Id, where it has four octets; a greater one than before says that the
@@ -97,7 +104,7 @@ impl<'a> SenderRef<'a> {
     pub fn state_id(&self) -> Option<u32>
         ensures { (l : List Avp) → HasAvps self.now l → result ≡ number_told origin_state_id l }
     {
-        number_told(AvpsRef::Spelled(self.rest), ORIGIN_STATE_ID)
+        first_number_of_code(AvpsRef::Spelled(self.rest), ORIGIN_STATE_ID)
     }
 
     /// The ids of its applications, in order of the message, those of Vendor-Specific-Application-Id too (6.8, 6.9 and
@@ -106,7 +113,7 @@ impl<'a> SenderRef<'a> {
         ensures ids { (l : List Avp) → HasAvps self.now l → IfOk result (λ ids. ids ≡ flat_map application_ids l) }
         ensures memory { (l : List Avp) → HasAvps self.now l → OnErr result (flat_map application_ids l ≢ []) }
     {
-        applications(alloc, AvpsRef::Spelled(self.rest))
+        read_application_ids(alloc, AvpsRef::Spelled(self.rest))
     }
 
     /// The vendors that it names with Supported-Vendor-Id, in order of the message (5.3.6); or want of memory,
@@ -117,7 +124,7 @@ impl<'a> SenderRef<'a> {
         ensures memory { (l : List Avp) → HasAvps self.now l → OnErr result (numbers_told supported_vendor_id l ≢ []) }
     {
         let mut ids = Vec::new(alloc);
-        put_told(&mut ids, AvpsRef::Spelled(self.rest), SUPPORTED_VENDOR_ID)?;
+        push_all_numbers_of_code(&mut ids, AvpsRef::Spelled(self.rest), SUPPORTED_VENDOR_ID)?;
         Ok(IdList::from_vec(ids))
     }
 }
@@ -145,7 +152,7 @@ pub fn disconnect_cause(message: &MessageRef<'_>) -> Option<i32>
         return None;
     }
     spells_members(message.rest);
-    match number_told(AvpsRef::Spelled(message.rest), DISCONNECT_CAUSE) {
+    match first_number_of_code(AvpsRef::Spelled(message.rest), DISCONNECT_CAUSE) {
         Some(number) => Some(number.cast_signed()),
         None => None,
     }

@@ -9,9 +9,9 @@ ghost use Rattle.dm_base.specs.Built.{origin, state_avps, result_avp, built_answ
 
 use crate::Node;
 use crate::codes::{ORIGIN_HOST, ORIGIN_REALM, ORIGIN_STATE_ID, RESULT_CODE, SUCCESS};
-use crate::headers::answer;
+use crate::headers::header_of_answer;
 use crate::laws::built_is_spelled;
-use crate::parts::{answer_state, borrowed};
+use crate::parts::{answer_state, borrowed_avp};
 use dm_wire::codes::limits::HEADER_LEN;
 use dm_wire::laws::{avp_sized, canonical_spells};
 use dm_wire::{Header, WireFault, header_octets, push_avp};
@@ -19,68 +19,68 @@ use std::alloc::Global;
 
 /// The octets that Result-Code, Origin-Host and Origin-Realm take.
 #[tactic(auto, using(crate::proofs::Written::list_sized, crate::proofs::Written::host, crate::proofs::Written::realm))]
-fn list_size(node: &Node) -> usize
+fn success_and_origin_size(node: &Node) -> usize
     ensures size { result ≡ length (canonical_list (result_avp success ∷ origin node.now [])) }
     ensures small { result ≤ 540 }
 {
     avp_sized();
-    borrowed(RESULT_CODE, &SUCCESS.to_be_bytes()).padded_len()
-        + borrowed(ORIGIN_HOST, node.host.as_slice()).padded_len()
-        + borrowed(ORIGIN_REALM, node.realm.as_slice()).padded_len()
+    borrowed_avp(RESULT_CODE, &SUCCESS.to_be_bytes()).padded_len()
+        + borrowed_avp(ORIGIN_HOST, node.host.as_slice()).padded_len()
+        + borrowed_avp(ORIGIN_REALM, node.realm.as_slice()).padded_len()
 }
 
 /// The octets that Origin-State-Id takes, where there is a number for it.
-fn state_size(state: Option<u32>) -> usize
+fn origin_state_id_size(state: Option<u32>) -> usize
     ensures size { result ≡ length (canonical_list (state_avps state)) }
     ensures small { result ≤ 12 }
 {
     avp_sized();
     match state {
-        Some(number) => borrowed(ORIGIN_STATE_ID, &number.to_be_bytes()).padded_len(),
+        Some(number) => borrowed_avp(ORIGIN_STATE_ID, &number.to_be_bytes()).padded_len(),
         None => 0,
     }
 }
 
 /// Origin-State-Id, appended, where there is a number for it.
-fn put_state(out: &mut Vec<u8>, state: Option<u32>) -> Result<(), WireFault>
+fn push_origin_state_id(out: &mut Vec<u8>, state: Option<u32>) -> Result<(), WireFault>
     ensures put { OnOk result (out.new.items ≡ out.old.items ++ canonical_list (state_avps state)) }
     ensures memory { IfErr result (λ fault. fault ≡ WireFault.NoMemory) }
 {
     if let Some(number) = state {
-        push_avp(out, borrowed(ORIGIN_STATE_ID, &number.to_be_bytes()))?;
+        push_avp(out, borrowed_avp(ORIGIN_STATE_ID, &number.to_be_bytes()))?;
     }
     Ok(())
 }
 
 /// Result-Code with DIAMETER_SUCCESS, Origin-Host and Origin-Realm, appended.
 #[tactic(auto, using(crate::proofs::Written::host, crate::proofs::Written::realm))]
-fn put_list(out: &mut Vec<u8>, node: &Node) -> Result<(), WireFault>
+fn push_success_and_origin(out: &mut Vec<u8>, node: &Node) -> Result<(), WireFault>
     ensures put { OnOk result (out.new.items ≡ out.old.items
         ++ canonical_list (result_avp success ∷ origin node.now [])) }
     ensures memory { IfErr result (λ fault. fault ≡ WireFault.NoMemory) }
 {
-    push_avp(out, borrowed(RESULT_CODE, &SUCCESS.to_be_bytes()))?;
-    push_avp(out, borrowed(ORIGIN_HOST, node.host.as_slice()))?;
-    push_avp(out, borrowed(ORIGIN_REALM, node.realm.as_slice()))?;
+    push_avp(out, borrowed_avp(RESULT_CODE, &SUCCESS.to_be_bytes()))?;
+    push_avp(out, borrowed_avp(ORIGIN_HOST, node.host.as_slice()))?;
+    push_avp(out, borrowed_avp(ORIGIN_REALM, node.realm.as_slice()))?;
     Ok(())
 }
 
 /// The octets that all AVPs of the answer take.
-fn answer_size(node: &Node, state: Option<u32>) -> usize
+fn answer_avps_size(node: &Node, state: Option<u32>) -> usize
     ensures size { result ≡ length (canonical_list (result_avp success ∷ origin node.now (state_avps state))) }
     ensures small { result ≤ 552 }
 {
-    list_size(node) + state_size(state)
+    success_and_origin_size(node) + origin_state_id_size(state)
 }
 
 /// All AVPs of the answer, appended.
-fn put_answer_avps(out: &mut Vec<u8>, node: &Node, state: Option<u32>) -> Result<(), WireFault>
+fn push_answer_avps(out: &mut Vec<u8>, node: &Node, state: Option<u32>) -> Result<(), WireFault>
     ensures put { OnOk result (out.new.items ≡ out.old.items
         ++ canonical_list (result_avp success ∷ origin node.now (state_avps state))) }
     ensures memory { IfErr result (λ fault. fault ≡ WireFault.NoMemory) }
 {
-    put_list(out, node)?;
-    put_state(out, state)?;
+    push_success_and_origin(out, node)?;
+    push_origin_state_id(out, state)?;
     Ok(())
 }
 
@@ -99,12 +99,12 @@ pub fn success_octets(alloc: Global, node: &Node, to: &Header) -> Result<Vec<u8>
     built_is_spelled();
     canonical_spells();
     let state = answer_state(node, to.command);
-    let size = HEADER_LEN as usize + answer_size(node, state);
-    let Some(header) = header_octets(answer(false, to), size as u32) else {
+    let size = HEADER_LEN as usize + answer_avps_size(node, state);
+    let Some(header) = header_octets(header_of_answer(false, to), size as u32) else {
         return Err(WireFault::TooLong);
     };
     let mut octets = Vec::with_capacity(alloc, size)?;
     octets.extend_from_slice(&header)?;
-    put_answer_avps(&mut octets, node, state)?;
+    push_answer_avps(&mut octets, node, state)?;
     Ok(octets)
 }

@@ -13,7 +13,7 @@ use crate::BaseCommand;
 use crate::caps_ref::CapsRef;
 use crate::codes::{DISCONNECT_CAUSE, ORIGIN_HOST, ORIGIN_REALM, RESULT_CODE};
 use crate::kind_ref::KindRef;
-use crate::reading::{data_at, number_at};
+use crate::reading::{first_data_of_code, first_number_or_zero};
 use dm_dict::{Dictionary, Judged};
 use dm_wire::laws::members_spell;
 use dm_wire::{AvpsRef, MessageRef};
@@ -26,7 +26,7 @@ pub(crate) fn spells_members(octets: &[u8])
 }
 
 /// The kind by the command and the R bit, with the AVPs in these octets.
-fn kind_in<'a>(command: BaseCommand, request: bool, rest: &'a [u8]) -> KindRef<'a>
+fn borrowed_kind<'a>(command: BaseCommand, request: bool, rest: &'a [u8]) -> KindRef<'a>
     requires { is_some (members rest.now) ≡ true }
     ensures told { (l : List Avp) → members rest.now ≡ Some l → kind_with l result ≡ kind_by (Some command) request l }
     ensures lies { LiesIn result rest.now }
@@ -34,15 +34,15 @@ fn kind_in<'a>(command: BaseCommand, request: bool, rest: &'a [u8]) -> KindRef<'
     let avps = AvpsRef::Spelled(rest);
     match command {
         BaseCommand::CapabilitiesExchange if request => KindRef::Cer(CapsRef {
-            host: data_at(avps, ORIGIN_HOST),
-            realm: data_at(avps, ORIGIN_REALM),
+            host: first_data_of_code(avps, ORIGIN_HOST),
+            realm: first_data_of_code(avps, ORIGIN_REALM),
             rest,
         }),
-        BaseCommand::CapabilitiesExchange => KindRef::Cea(number_at(avps, RESULT_CODE)),
+        BaseCommand::CapabilitiesExchange => KindRef::Cea(first_number_or_zero(avps, RESULT_CODE)),
         BaseCommand::DeviceWatchdog if request => KindRef::Dwr,
         BaseCommand::DeviceWatchdog => KindRef::Dwa,
         BaseCommand::DisconnectPeer if request => {
-            KindRef::Dpr(number_at(avps, DISCONNECT_CAUSE).cast_signed())
+            KindRef::Dpr(first_number_or_zero(avps, DISCONNECT_CAUSE).cast_signed())
         }
         BaseCommand::DisconnectPeer => KindRef::Dpa,
     }
@@ -72,7 +72,7 @@ pub fn view<'a>(
     match dictionary.judge(message) {
         Judged::Good => {
             spells_members(message.rest);
-            Ok(kind_in(command, header.request, message.rest))
+            Ok(borrowed_kind(command, header.request, message.rest))
         }
         bad => Err(bad),
     }

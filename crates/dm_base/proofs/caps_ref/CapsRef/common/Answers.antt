@@ -12,16 +12,16 @@ pub returns : goal.returns
 returns c = λ caps shows.
     let n = c.args.node.now in
     let told = flat_map application_ids shows.avps in
-    let auth : IsPermutation n.auth c.sorted_in-auth.result.now =
-    subst (λ (s : List ℕ). IsPermutation s c.sorted_in-auth.result.now) c.as_slice.ensures
-    c.sorted_in-auth.ensures.same in
-    let acct : IsPermutation n.acct c.sorted_in-acct.result.now =
-    subst (λ (s : List ℕ). IsPermutation s c.sorted_in-acct.result.now) c.as_slice-2.ensures
-    c.sorted_in-acct.ensures.same in
-    let specific : IsPermutation (specific_ids n) c.sorted_in-specific.result.now =
-    subst (λ (s : List ℕ). IsPermutation s c.sorted_in-specific.result.now) c.specific_ids.ensures.ids
-    c.sorted_in-specific.ensures.same in
+    let auth : IsPermutation n.auth c.sorted_ids-auth.result.now =
+    subst (λ (s : List ℕ). IsPermutation s c.sorted_ids-auth.result.now) c.as_slice.ensures
+    c.sorted_ids-auth.ensures.same in
+    let acct : IsPermutation n.acct c.sorted_ids-acct.result.now =
+    subst (λ (s : List ℕ). IsPermutation s c.sorted_ids-acct.result.now) c.as_slice-2.ensures
+    c.sorted_ids-acct.ensures.same in
+    let specific : IsPermutation (specific_ids n) c.sorted_ids-specific.result.now =
+    subst (λ (s : List ℕ). IsPermutation s c.sorted_ids-specific.result.now) c.vendor_application_ids.ensures.ids
+    c.sorted_ids-specific.ensures.same in
     let relay : is_relay n ≡ false = sym c.is_relay.ensures ∙ c.if-is_relay.false in
-    c.list_meets.ensures shows.avps shows.listed ∙ same_own _ _ _ _ _ _ told auth acct specific
+    c.avps_tell_own_id.ensures shows.avps shows.listed ∙ same_own _ _ _ _ _ _ told auth acct specific
     ∙ or_behind (is_relay n) (meets n told) relay
     ∙ ap (λ (ids : List ℕ). is_relay n || meets n ids) (sym shows.applications)
