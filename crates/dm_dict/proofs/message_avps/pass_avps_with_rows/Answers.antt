@@ -9,7 +9,8 @@ loop-avp-preserved c = (
       let (n, is, behind) = c.in-Some.ensures.parts k listed in (
         n,
         behind,
-        c.pass_avp_with_row.ensures.passed c.if-not-pass_avp_with_row.false c.args.rule.entries.now c.in-Some-row_for.ensures all k n
+        c.pass_avp_with_row.ensures.passed c.if-not-pass_avp_with_row.false c.args.rule.entries.now
+            c.in-Some-row_for.ensures all k n
             before is,
       ),
   omega (arith, c.in-Some.ensures.less, c.loop-avp.invariant.1),

@@ -61,7 +61,8 @@ pass_avp_parts-returns-clause-passed t c = λ yes l m k before is.
     let allowed = ap allows c.look_up_by_marks-place.ensures.entry in
     let good = looked_up (group_faults c.args.depth avps) _ _ a _ _ allowed
     (c.passes_avp.ensures c.if-not-passes_avp.false) in
-    one_passed c.args.depth avps rule l m k a _ _ _ before is good c.count_at_entry.ensures.size c.count_at_entry.ensures.counted
+    one_passed c.args.depth avps rule l m k a _ _ _ before is good c.count_at_entry.ensures.size
+    c.count_at_entry.ensures.counted
     c.look_up_by_marks-place.ensures.counts
 
 pub pass_octets_with_rows-loop-avp-init : goal.pass_octets_with_rows-loop-avp-init
@@ -83,7 +84,8 @@ pass_octets_with_rows-loop-avp-preserved t c =
         λ m h. spelled (a ∷ m)
             (take n s, _, rw (take_rest s n) (sym (take-append-drop n s)), c.in-Some.ensures.found, h),
         λ l m before. one_passed c.args.depth avps rule l (a ∷ m) m a _ _ (Some c.in-Some-row_for.entry)
-            (passed l (a ∷ m) before) refl good c.count_at_entry.ensures.size c.count_at_entry.ensures.counted stands.counts,
+            (passed l (a ∷ m) before) refl good c.count_at_entry.ensures.size
+            c.count_at_entry.ensures.counted stands.counts,
       ),
       omega arith,
     )
@@ -95,7 +97,8 @@ pass_octets_without_row-returns-then-pass_undefined_avp-clause-passed t c =
     let a = avp_of c.in-Some.avp in (
       λ m. a ∷ m,
       λ m h. (take n s, _, rw (take_rest s n) (sym (take-append-drop n s)), c.in-Some.ensures.found, h),
-      λ l m before. c.pass_undefined_avp.ensures.passed c.if-pass_undefined_avp.true c.args.depth l (a ∷ m) m before refl,
+      λ l m before. c.pass_undefined_avp.ensures.passed c.if-pass_undefined_avp.true c.args.depth l
+          (a ∷ m) m before refl,
     )
 
 pub pass_octets_without_row-returns-then-pass_looked_up_avp-clause-passed : goal.pass_octets_without_row-returns-then-pass_looked_up_avp-clause-passed

@@ -17,4 +17,5 @@ returns-clause-passed c = λ yes depth l m k before is.
     sym (ap (option_and_then (slice_get avps)) (c.is_unmarked.ensures.none c.if-not-is_unmarked.false c.args.avp.vendor)
     ∙ found coded avps) in
     one_passed depth avps c.args.rule.entries.now l m k a _ _ _ before is
-    (rw (none, c.if-avp.false) refl) c.count_at_entry.ensures.size c.count_at_entry.ensures.counted c.place_and_entry-any.ensures.counts
+    (rw (none, c.if-avp.false) refl) c.count_at_entry.ensures.size c.count_at_entry.ensures.counted
+    c.place_and_entry-any.ensures.counts

@@ -9,7 +9,8 @@ loop-entry-preserved c =
     let entries = c.as_slice-entries.result.now in (
       search rules,
       rw c.in_ok-push.ensures.items
-          (one_more entries c.loop-entry.tallies.items c.loop-entry.entry-index c.entry-item.result c.at_start.result size
+          (one_more entries c.loop-entry.tallies.items c.loop-entry.entry-index c.entry-item.result
+          c.at_start.result size
           c.loop-entry-test.true c.entry-item.is c.at_start.ensures old),
     )
 

@@ -9,7 +9,8 @@ returns c =
     let d = defined c.self.inside.linked.tables in
     let avps = c.args.message.now.avps in
     rw (← c.self.view_is) (record {
-      all = under_ok c.collect_faults.result _ _ (λ listed all. all avps c.as_slice.ensures) c.collect_faults.ensures.all;
+      all = under_ok c.collect_faults.result _ _ (λ listed all. all avps c.as_slice.ensures)
+          c.collect_faults.ensures.all;
       found = under_ok c.collect_faults.result _ _
           (λ listed all. listed_found d c.args.message.now listed.items (all avps c.as_slice.ensures)) c.collect_faults.ensures.all;
       memory = under_err c.collect_faults.result (λ some. some avps c.as_slice.ensures) c.collect_faults.ensures.memory;
