@@ -10,8 +10,8 @@ use crate::link::Link;
 use crate::{Side, links};
 use dm_peer::{Conn, Peer};
 
-/// Whether the two, where both are there, are one.
-pub(crate) fn are_one(one: Option<Conn>, other: Option<Conn>) -> bool
+/// Whether the two connections, where both are there, are one.
+pub(crate) fn are_same_conn(one: Option<Conn>, other: Option<Conn>) -> bool
     ensures { result ≡ are_one one other }
 {
     match (one, other) {
@@ -44,7 +44,7 @@ pub(crate) fn are_agreed(
 }
 
 /// The connection that both are, if both are one.
-pub(crate) fn shared(one: Option<Conn>, other: Option<Conn>) -> Option<Conn>
+pub(crate) fn common_conn(one: Option<Conn>, other: Option<Conn>) -> Option<Conn>
     ensures { result ≡ shared one other }
 {
     match (one, other) {
@@ -66,13 +66,13 @@ fn open_in_roles(peer: &Peer) -> (Option<Conn>, Option<Conn>)
 }
 
 /// Whether the two peers agree.
-pub(crate) fn agree(a: &Peer, b: &Peer, links: &[Link]) -> bool
+pub(crate) fn peers_agree(a: &Peer, b: &Peer, links: &[Link]) -> bool
     ensures { result ≡ agrees a.now.standing.core b.now.standing.core (as_links links.now) }
 {
     let (initiated_a, accepted_a) = open_in_roles(a);
     let (initiated_b, accepted_b) = open_in_roles(b);
-    are_one(initiated_a, accepted_a)
-        && are_one(initiated_b, accepted_b)
+    are_same_conn(initiated_a, accepted_a)
+        && are_same_conn(initiated_b, accepted_b)
         && are_agreed(false, links, initiated_a, initiated_b)
         && are_agreed(true, links, initiated_a, accepted_b)
         && are_agreed(true, links, accepted_a, initiated_b)
@@ -87,7 +87,7 @@ pub(crate) fn open_on_both(a: &Peer, b: &Peer) -> Option<Conn>
 {
     let (initiated_a, accepted_a) = open_in_roles(a);
     let (initiated_b, accepted_b) = open_in_roles(b);
-    shared(initiated_a, accepted_b)
-        .or(shared(accepted_a, initiated_b))
-        .or(shared(initiated_a, initiated_b).or(shared(accepted_a, accepted_b)))
+    common_conn(initiated_a, accepted_b)
+        .or(common_conn(accepted_a, initiated_b))
+        .or(common_conn(initiated_a, initiated_b).or(common_conn(accepted_a, accepted_b)))
 }

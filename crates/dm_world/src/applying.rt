@@ -32,7 +32,7 @@ impl Net {
             return Ok(Effect::Ignored);
         }
         let opener = link.opener;
-        Ok(self.tell(alloc, opener, Event::Nack(conn), None)?)
+        Ok(self.tell_side(alloc, opener, Event::Nack(conn), None)?)
     }
 
     /// The link is lost, but for so many first octets towards A and towards B.
@@ -60,7 +60,7 @@ impl Net {
         ensures want { OnErr result (is_open (peer_of (as_side side) self.old.pair).standing.core.state ≡ true) }
         ensures unchanged { OnErr result (as_world self.new ≡ as_world self.old) }
     {
-        self.tell(alloc, side, Event::Submit(octets), None)
+        self.tell_side(alloc, side, Event::Submit(octets), None)
     }
 
     /// One happening.
@@ -84,9 +84,14 @@ impl Net {
     {
         match happening {
             Happening::Start(side) => Ok(self.start(alloc, *side)?),
-            Happening::Stop(side, cause) => Ok(self.tell(alloc, *side, Event::Stop(*cause), None)?),
+            Happening::Stop(side, cause) => Ok(self.tell_side(
+                alloc,
+                *side,
+                Event::Stop(*cause),
+                None,
+            )?),
             Happening::Timeout(side) => Ok(self.time_out(alloc, *side)),
-            Happening::Tick(side) => Ok(self.tell(alloc, *side, Event::Tick, None)?),
+            Happening::Tick(side) => Ok(self.tell_side(alloc, *side, Event::Tick, None)?),
             Happening::Restart(side) => {
                 self.restart(made, *side);
                 Ok(Effect::Done)
@@ -94,7 +99,7 @@ impl Net {
             Happening::Ack(conn) => self.ack(alloc, made, *conn),
             Happening::Nack(conn) => self.nack(alloc, *conn),
             Happening::Deliver(conn, side) => self.deliver(alloc, *conn, *side),
-            Happening::Piece(conn, side, count) => self.piece(alloc, *conn, *side, *count),
+            Happening::Piece(conn, side, count) => self.deliver_piece(alloc, *conn, *side, *count),
             Happening::Lose(conn, to_a, to_b) => self.lose(*conn, *to_a, *to_b),
             Happening::Submit(side, octets) => Ok(self.submit(alloc, *side, octets.as_slice())?),
         }

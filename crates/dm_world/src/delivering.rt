@@ -11,7 +11,7 @@ ghost use Rattle.dm_world.specs.Seen.{as_side, as_links};
 ghost use Rattle.dm_world.specs.Views.{as_world, Effects, IsFault, front_of};
 
 use crate::direction::{Handed, Next, empty_framer};
-use crate::following::enter;
+use crate::following::enter_link;
 use crate::link::End;
 use crate::net::Net;
 use crate::{Effect, Side, WorldFault};
@@ -22,7 +22,7 @@ use std::alloc::Global;
 impl Net {
     /// The side hears the front message of the link: its framer's copy hands it out, and takes the framer's place once
     /// the peer has answered.
-    fn hear(&mut self, alloc: Global, side: Side, index: usize) -> Result<Effect, NoMemory>
+    fn hear_message(&mut self, alloc: Global, side: Side, index: usize) -> Result<Effect, NoMemory>
         requires there { index < length self.old.links.items }
         ensures step { IfOk result (λ effect. (x : List ℕ) →
             front_of (as_side side) (slice_get (as_links self.old.links.items) index) ≡ Some x →
@@ -30,10 +30,10 @@ impl Net {
             (as_world self.old) (as_world self.new)) }
         ensures unchanged { OnErr result (as_world self.new ≡ as_world self.old) }
     {
-        match self.links[index].incoming(side).hand_out()? {
+        match self.links[index].incoming(side).hand_out_front()? {
             Some(Handed { message, framer }) => {
                 let event = Event::Arrived(Conn(index as u64), message.as_slice());
-                self.tell(alloc, side, event, Some(framer))
+                self.tell_side(alloc, side, event, Some(framer))
             }
             None => Ok(Effect::Ignored),
         }
@@ -54,10 +54,10 @@ impl Net {
         match self.links[index].own_end(side) {
             End::Shut => {
                 let event = Event::Arrived(Conn(index as u64), b"");
-                enter(&mut self.links, side, event, Some(empty_framer(alloc)));
+                enter_link(&mut self.links, side, event, Some(empty_framer(alloc)));
                 Ok(Effect::Done)
             }
-            End::Fresh | End::Open => self.hear(alloc, side, index),
+            End::Fresh | End::Open => self.hear_message(alloc, side, index),
         }
     }
 
@@ -80,10 +80,10 @@ impl Net {
         let event = Event::Gone(Conn(index as u64));
         match self.links[index].own_end(side) {
             End::Shut => {
-                enter(&mut self.links, side, event, None);
+                enter_link(&mut self.links, side, event, None);
                 Ok(Effect::Done)
             }
-            End::Fresh | End::Open => self.tell(alloc, side, event, None),
+            End::Fresh | End::Open => self.tell_side(alloc, side, event, None),
         }
     }
 
@@ -103,7 +103,7 @@ impl Net {
         ensures unchanged { OnErr result (as_world self.new ≡ as_world self.old) }
     {
         let index = self.index_of(conn)?;
-        match self.links[index].next(side) {
+        match self.links[index].coming_next_to(side) {
             Next::Nothing => Ok(Effect::Ignored),
             Next::Message => Ok(self.message_comes(alloc, side, index)?),
             Next::Disconnect => Ok(self.disconnect_comes(alloc, side, index)?),
@@ -111,7 +111,7 @@ impl Net {
     }
 
     /// So many next octets on the link come to the side, up to the end of the front message.
-    pub(crate) fn piece(
+    pub(crate) fn deliver_piece(
         &mut self,
         alloc: Global,
         conn: Conn,
@@ -131,13 +131,13 @@ impl Net {
             return Ok(Effect::Ignored);
         }
         let link = &self.links[index];
-        match link.next(side) {
+        match link.coming_next_to(side) {
             Next::Disconnect | Next::Nothing => Ok(Effect::Ignored),
             Next::Message => {
-                if link.incoming(side).to_come() <= count as usize {
+                if link.incoming(side).octets_left() <= count as usize {
                     return Ok(self.message_comes(alloc, side, index)?);
                 }
-                self.links[index].take(side, count as usize)?;
+                self.links[index].deliver_part(side, count as usize)?;
                 Ok(Effect::Done)
             }
         }

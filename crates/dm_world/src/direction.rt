@@ -82,7 +82,7 @@ pub(crate) fn empty_framer(alloc: Global) -> Framer
 
 /// The message that a framer hands out which is fed the rest of it, behind the first octets that it holds. The framer
 /// that is handed in stays as it is.
-fn frame_out(framer: &Framer, message: &[u8], taken: usize) -> Result<Handed, FrameFault>
+fn framed_message(framer: &Framer, message: &[u8], taken: usize) -> Result<Handed, FrameFault>
     requires frame { IsFrame max_message_len message.now }
     requires within { taken ≤ length message.now }
     requires held { framer.now ≡ holding (take taken message.now) }
@@ -100,7 +100,7 @@ fn frame_out(framer: &Framer, message: &[u8], taken: usize) -> Result<Handed, Fr
 }
 
 /// The front message.
-fn front_of(queue: &VecDeque<Octets>) -> Option<&[u8]>
+fn front_message(queue: &VecDeque<Octets>) -> Option<&[u8]>
     ensures { option_map (λ octets. octets.now) result ≡ slice_get queue.now.items 0 }
 {
     match queue.front() {
@@ -147,7 +147,7 @@ impl Direction {
     }
 
     /// Puts a message in behind the others. Where the disconnect is in, it goes nowhere.
-    pub(crate) fn put(&mut self, message: Octets)
+    pub(crate) fn add_message(&mut self, message: Octets)
         requires room { 0 < self.old.room }
         requires frame { IsFrame max_message_len message }
         ensures put { self.new.direction ≡ with_message message self.old.direction }
@@ -160,7 +160,7 @@ impl Direction {
     }
 
     /// Puts a disconnect in behind what was sent, where none is in.
-    pub(crate) fn put_disconnect(&mut self)
+    pub(crate) fn add_disconnect(&mut self)
         ensures put { self.new.direction ≡ with_disconnect self.old.direction }
         ensures room { self.new.room ≡ self.old.room }
     {
@@ -172,16 +172,16 @@ impl Direction {
 
     /// The front message, as a framer hands it out which was fed the octets that were delivered, and then the rest. The
     /// direction stays as it is.
-    pub(crate) fn hand_out(&self) -> Result<Option<Handed>, NoMemory>
+    pub(crate) fn hand_out_front(&self) -> Result<Option<Handed>, NoMemory>
         ensures message { IfOk result (λ found.
             option_map (λ handed. handed.message.items) found ≡ slice_get self.now.direction.messages 0) }
         ensures framer { IfOk result (λ found. IfSome found (λ handed. handed.framer ≡ holding [])) }
     {
-        let message = match front_of(&self.queue) {
+        let message = match front_message(&self.queue) {
             Some(message) => message,
             None => return Ok(None),
         };
-        match frame_out(&self.framer, message, self.taken) {
+        match framed_message(&self.framer, message, self.taken) {
             Ok(handed) => Ok(Some(handed)),
             Err(FrameFault::NoMemory) => Err(NoMemory),
             Err(_) => unreachable!(),
@@ -201,10 +201,10 @@ impl Direction {
     }
 
     /// How many octets of the front message are still to come; 0 where there is none.
-    pub(crate) fn to_come(&self) -> usize
+    pub(crate) fn octets_left(&self) -> usize
         ensures { result ≡ octets_to_come self.now.direction.messages self.now.direction.taken }
     {
-        match front_of(&self.queue) {
+        match front_message(&self.queue) {
             Some(message) => message.len() - self.taken,
             None => 0,
         }
@@ -212,13 +212,13 @@ impl Direction {
 
     /// Delivers so many octets of the front message, and not its last: they go to the framer. Where memory is wanted,
     /// nothing changes.
-    pub(crate) fn take(&mut self, count: usize) -> Result<(), NoMemory>
+    pub(crate) fn deliver_octets(&mut self, count: usize) -> Result<(), NoMemory>
         requires { count < octets_to_come self.old.direction.messages self.old.direction.taken }
         ensures taken { OnOk result (self.new.direction ≡ with_taken count self.old.direction) }
         ensures unchanged { OnErr result (self.new.direction ≡ self.old.direction) }
     {
         let end = self.taken + count;
-        match front_of(&self.queue) {
+        match front_message(&self.queue) {
             Some(message) => match self.framer.feed(&message[self.taken..end]) {
                 Ok(()) => {
                     self.taken = end;
@@ -267,7 +267,7 @@ impl Direction {
     }
 
     /// What comes next.
-    pub(crate) fn next(&self) -> Next
+    pub(crate) fn coming_next(&self) -> Next
         ensures { result ≡ next_kind (next_in self.now.direction.messages self.now.direction.mark) }
     {
         match (self.queue.is_empty(), self.mark) {

@@ -17,7 +17,7 @@ use dm_framer::Framer;
 use dm_peer::{Action, Actions, Conn, Event, Peer};
 
 /// The link that the event names.
-pub(crate) fn named(event: Event<'_>) -> Option<Conn>
+pub(crate) fn named_link(event: Event<'_>) -> Option<Conn>
     ensures { result ≡ named (as_event (event_told event.entry)) }
 {
     match event {
@@ -32,7 +32,12 @@ pub(crate) fn named(event: Event<'_>) -> Option<Conn>
 
 /// The event reaches the side's end of the link that it names, if there is one. Where a message arrived the framer
 /// takes the place of the one that holds octets of it.
-pub(crate) fn enter(links: &mut Vec<Link>, side: Side, event: Event<'_>, framer: Option<Framer>)
+pub(crate) fn enter_link(
+    links: &mut Vec<Link>,
+    side: Side,
+    event: Event<'_>,
+    framer: Option<Framer>,
+)
     requires known { is_start (event_told event) ≡ false }
     requires framer { FramerFits (event_told event) framer }
     ensures entered { as_links links.new.items ≡ enter (as_side side) (as_event (event_told event.entry))
@@ -40,19 +45,19 @@ pub(crate) fn enter(links: &mut Vec<Link>, side: Side, event: Event<'_>, framer:
     ensures room { (n c : ℕ) → HasRoom (as_side side) links.old.items n c →
         HasRoom (as_side side) links.new.items n c }
 {
-    match named(event) {
+    match named_link(event) {
         Some(conn) => {
             let index = conn.0 as usize;
             if index < links.len() {
-                links[index].enter(side, event, framer);
+                links[index].enter_event(side, event, framer);
             }
         }
         None => {}
     }
 }
 
-/// One action of the side's peer.
-fn perform_one(links: &mut Vec<Link>, side: Side, action: Action)
+/// Does one action of the side's peer on the links.
+fn perform_action(links: &mut Vec<Link>, side: Side, action: Action)
     requires room { (c : ℕ) → IsTrue (sends_at c (deed_in (as_action action) ∷ [])) →
         HasRoom (as_side side) links.old.items 1 c }
     requires frames { SendFrames (as_action action ∷ []) }
@@ -62,26 +67,26 @@ fn perform_one(links: &mut Vec<Link>, side: Side, action: Action)
         HasRoom (as_side side) links.new.items n c }
 {
     match action {
-        Action::Send(conn, message) => links::say(links, side, conn.0 as usize, message),
-        Action::Close(conn) => links::close(links, side, conn.0 as usize),
+        Action::Send(conn, message) => links::send_on_link(links, side, conn.0 as usize, message),
+        Action::Close(conn) => links::close_link(links, side, conn.0 as usize),
         Action::Connect(_) | Action::Up(_) => {}
     }
 }
 
-/// The actions of the side's peer, in order.
-pub(crate) fn perform(links: &mut Vec<Link>, side: Side, mut actions: Actions)
+/// Does the actions of the side's peer on the links, in order.
+pub(crate) fn perform_actions(links: &mut Vec<Link>, side: Side, mut actions: Actions)
     requires room { HasRoomFor (as_side side) links.old.items (as_actions actions.items) }
     requires frames { SendFrames (as_actions actions.items) }
     ensures { as_links links.new.items
         ≡ perform (as_side side) (as_actions actions.items) (as_links links.old.items) }
 {
     while let Some(action) = actions.pop_at(0) {
-        perform_one(links, side, action);
+        perform_action(links, side, action);
     }
 }
 
-/// All of it, for the side's peer as it stands behind the event.
-pub(crate) fn follow(
+/// The event reaches its link, and the actions of the side's peer, which stands as it does behind the event, are done.
+pub(crate) fn follow_event(
     links: &mut Vec<Link>,
     side: Side,
     peer: &Peer,
@@ -96,9 +101,9 @@ pub(crate) fn follow(
         (as_event (event_told event.entry)) actions.items peer.now
         (as_links links.old.items) }
 {
-    enter(links, side, event, framer);
-    perform(links, side, actions);
+    enter_link(links, side, event, framer);
+    perform_actions(links, side, actions);
     if let Event::Arrived(conn, _) = event {
-        links::settle(links, side, conn.0 as usize, holds(peer, conn));
+        links::settle_link(links, side, conn.0 as usize, holds(peer, conn));
     }
 }

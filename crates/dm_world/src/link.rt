@@ -94,7 +94,7 @@ impl Link {
     }
 
     /// The side sends a message.
-    pub(crate) fn say(&mut self, side: Side, message: Octets)
+    pub(crate) fn send_message(&mut self, side: Side, message: Octets)
         requires room { 0 < out_room (as_side side) self.old }
         requires frame { IsFrame max_message_len message }
         ensures said { as_link self.new ≡ by_side (as_side side) (with_sent message) (as_link self.old) }
@@ -102,8 +102,8 @@ impl Link {
     {
         let mine = self.is_opener(side);
         match (self.phase, mine) {
-            (Phase::Up, true) => self.to_other.put(message),
-            (Phase::Up, false) => self.to_opener.put(message),
+            (Phase::Up, true) => self.to_other.add_message(message),
+            (Phase::Up, false) => self.to_opener.add_message(message),
             _ => {}
         }
     }
@@ -117,11 +117,11 @@ impl Link {
         match (self.phase, mine) {
             (Phase::Up, true) => {
                 self.opener_end = End::Shut;
-                self.to_other.put_disconnect();
+                self.to_other.add_disconnect();
             }
             (Phase::Up, false) => {
                 self.other_end = End::Shut;
-                self.to_opener.put_disconnect();
+                self.to_opener.add_disconnect();
             }
             (Phase::Pending, _) => self.phase = Phase::Cancelled,
             _ => {}
@@ -151,22 +151,22 @@ impl Link {
     }
 
     /// So many octets of the front message come to the side, and not its last. Where memory is wanted, nothing changes.
-    pub(crate) fn take(&mut self, side: Side, count: usize) -> Result<(), NoMemory>
+    pub(crate) fn deliver_part(&mut self, side: Side, count: usize) -> Result<(), NoMemory>
         requires { count < octets_to_come_to (as_side side) (as_link self.old) }
         ensures taken { OnOk result (as_link self.new ≡ by_side (as_side side) (take_part count) (as_link self.old)) }
         ensures unchanged { OnErr result (as_link self.new ≡ as_link self.old) }
     {
         if self.is_opener(side) {
-            self.to_opener.take(count)
+            self.to_opener.deliver_octets(count)
         } else {
-            self.to_other.take(count)
+            self.to_other.deliver_octets(count)
         }
     }
 
     /// An event that names the link reaches the side's end of it. Where a message arrived the framer takes the place of
     /// the one that holds octets of it.
     #[tactic(auto, using(crate::proofs::Hearing::not_entered, crate::proofs::Hearing::not_started_on))]
-    pub(crate) fn enter(&mut self, side: Side, event: Event<'_>, framer: Option<Framer>)
+    pub(crate) fn enter_event(&mut self, side: Side, event: Event<'_>, framer: Option<Framer>)
         requires { FramerFits (event_told event) framer }
         ensures entered { as_link self.new
             ≡ by_side (as_side side) (entered (concern_in (event_told event.entry))) (as_link self.old) }
@@ -221,20 +221,20 @@ impl Link {
         if mine {
             self.to_opener.deliver_disconnect();
             if let End::Fresh = self.opener_end {
-                self.to_other.put_disconnect();
+                self.to_other.add_disconnect();
             }
             self.opener_end = End::Shut;
         } else {
             self.to_other.deliver_disconnect();
             if let End::Fresh = self.other_end {
-                self.to_opener.put_disconnect();
+                self.to_opener.add_disconnect();
             }
             self.other_end = End::Shut;
         }
     }
 
     /// A fresh end that was heard on is open where its peer holds the link, else shut.
-    pub(crate) fn settle(&mut self, side: Side, holds: bool)
+    pub(crate) fn settle_end(&mut self, side: Side, holds: bool)
         ensures { as_link self.new ≡ by_side (as_side side) (settled_view HeardOnLink holds) (as_link self.old) }
     {
         let settled = if holds { End::Open } else { End::Shut };
@@ -284,11 +284,11 @@ impl Link {
     }
 
     /// What comes next to the side.
-    pub(crate) fn next(&self, side: Side) -> Next
+    pub(crate) fn coming_next_to(&self, side: Side) -> Next
         ensures { result ≡ next_to (as_side side) (as_link self.now) }
     {
         match self.phase {
-            Phase::Up => self.incoming(side).next(),
+            Phase::Up => self.incoming(side).coming_next(),
             _ => Next::Nothing,
         }
     }

@@ -38,7 +38,7 @@ pub(crate) fn reserve(
 }
 
 /// The side sends a message on the link, if there is one.
-pub(crate) fn say(links: &mut Vec<Link>, side: Side, index: usize, message: Octets)
+pub(crate) fn send_on_link(links: &mut Vec<Link>, side: Side, index: usize, message: Octets)
     requires room { HasRoom (as_side side) links.old.items 1 index }
     requires frame { IsFrame max_message_len message }
     ensures said { as_links links.new.items
@@ -47,12 +47,12 @@ pub(crate) fn say(links: &mut Vec<Link>, side: Side, index: usize, message: Octe
         HasRoom (as_side side) links.new.items n c }
 {
     if index < links.len() {
-        links[index].say(side, message);
+        links[index].send_message(side, message);
     }
 }
 
 /// The side closes the link, if there is one.
-pub(crate) fn close(links: &mut Vec<Link>, side: Side, index: usize)
+pub(crate) fn close_link(links: &mut Vec<Link>, side: Side, index: usize)
     ensures closed { as_links links.new.items
         ≡ change_at index (by_side (as_side side) with_close) (as_links links.old.items) }
     ensures room { (n c : ℕ) → HasRoom (as_side side) links.old.items n c →
@@ -64,12 +64,12 @@ pub(crate) fn close(links: &mut Vec<Link>, side: Side, index: usize)
 }
 
 /// A fresh end of the side that was heard on is open where its peer holds the link, else shut.
-pub(crate) fn settle(links: &mut Vec<Link>, side: Side, index: usize, holds: bool)
+pub(crate) fn settle_link(links: &mut Vec<Link>, side: Side, index: usize, holds: bool)
     ensures { as_links links.new.items
         ≡ change_at index (by_side (as_side side) (settled_view HeardOnLink holds)) (as_links links.old.items) }
 {
     if index < links.len() {
-        links[index].settle(side, holds);
+        links[index].settle_end(side, holds);
     }
 }
 

@@ -26,7 +26,7 @@ impl MadeEnds {
     }
 
     /// Those of the side, the earliest first.
-    pub(crate) fn of(&self, side: Side) -> &[usize]
+    pub(crate) fn ends_made_for(&self, side: Side) -> &[usize]
         ensures { result.now ≡ ends_of (as_side side) self.now }
     {
         match side {

@@ -13,7 +13,7 @@ ghost use Rattle.dm_world.specs.Seen.{as_side, as_links};
 ghost use Rattle.dm_world.specs.Telling.{is_start, FramerFits};
 ghost use Rattle.dm_world.specs.Views.{as_world, Effects};
 
-use crate::following::{follow, named};
+use crate::following::{follow_event, named_link};
 use crate::link::Link;
 use crate::pair::Pair;
 use crate::rooms::make_room;
@@ -48,7 +48,7 @@ impl Net {
     }
 
     /// What the side's peer asks for at the event, with room for what it sends. None where it refuses the event.
-    fn ask(
+    fn ask_with_room(
         &mut self,
         alloc: Global,
         side: Side,
@@ -71,13 +71,18 @@ impl Net {
         if !self.pair.takes(side, event) {
             return Ok(None);
         }
-        make_room(&mut self.links, side, self.pair.of(side), named(event))?;
-        self.pair.ask(alloc, side, event)
+        make_room(
+            &mut self.links,
+            side,
+            self.pair.peer_at(side),
+            named_link(event),
+        )?;
+        self.pair.ask_side(alloc, side, event)
     }
 
     /// The side's peer is told of the event. Where a message arrived the framer, which then has handed it out, takes
     /// the place of the one that holds octets of it.
-    pub(crate) fn tell(
+    pub(crate) fn tell_side(
         &mut self,
         alloc: Global,
         side: Side,
@@ -94,10 +99,10 @@ impl Net {
             (event_told event.entry) ≡ true) }
         ensures unchanged { OnErr result (as_world self.new ≡ as_world self.old) }
     {
-        match self.ask(alloc, side, event) {
+        match self.ask_with_room(alloc, side, event) {
             Ok(Some(actions)) => {
-                let peer = self.pair.of(side);
-                follow(&mut self.links, side, peer, event, framer, actions);
+                let peer = self.pair.peer_at(side);
+                follow_event(&mut self.links, side, peer, event, framer, actions);
                 Ok(Effect::Done)
             }
             Ok(None) => Ok(Effect::Ignored),

@@ -22,7 +22,7 @@ pub(crate) struct Pair {
 }
 
 /// What the peer asks for at the event. None where it refuses the event.
-fn ask_one(peer: &mut Peer, alloc: Global, event: Event<'_>) -> Result<Option<Actions>, NoMemory>
+fn ask_peer(peer: &mut Peer, alloc: Global, event: Event<'_>) -> Result<Option<Actions>, NoMemory>
     ensures shaped { IsTrue (is_shaped peer.old.standing.core) }
     ensures answer { IfOk result (λ answer. IsAnswer
         (acts peer.old (event_told event.entry)) answer peer.old peer.new) }
@@ -63,7 +63,7 @@ fn is_in_place(peer: &Peer, event: Event<'_>) -> bool
 
 impl Pair {
     /// The peer of the side.
-    pub(crate) fn of(&self, side: Side) -> &Peer
+    pub(crate) fn peer_at(&self, side: Side) -> &Peer
         ensures { result.now ≡ peer_of (as_side side) self.now }
     {
         match side {
@@ -80,13 +80,13 @@ impl Pair {
         ensures refused { result ≡ false → IsAnswerOf (as_side side) (event_told event.entry) None self.now self.now }
     {
         refusals_go_by_rule();
-        let peer = self.of(side);
+        let peer = self.peer_at(side);
         let _shaped = peer.state();
         is_in_place(peer, event)
     }
 
     /// What the side's peer asks for at the event. None where it refuses the event.
-    pub(crate) fn ask(
+    pub(crate) fn ask_side(
         &mut self,
         alloc: Global,
         side: Side,
@@ -99,8 +99,8 @@ impl Pair {
         ensures unchanged { OnErr result (self.new ≡ self.old) }
     {
         match side {
-            Side::A => ask_one(&mut self.a, alloc, event),
-            Side::B => ask_one(&mut self.b, alloc, event),
+            Side::A => ask_peer(&mut self.a, alloc, event),
+            Side::B => ask_peer(&mut self.b, alloc, event),
         }
     }
 

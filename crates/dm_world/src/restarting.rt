@@ -18,7 +18,7 @@ use dm_peer::{Conn, Event};
 use std::alloc::Global;
 
 /// The side starts anew, as far as these links go.
-fn restart_each(links: &mut Vec<Link>, side: Side, indexes: &[usize])
+fn restart_each_link(links: &mut Vec<Link>, side: Side, indexes: &[usize])
     ensures { as_links links.new.items ≡ restart_each (as_side side) indexes.now (as_links links.old.items) }
 {
     for index in indexes {
@@ -27,7 +27,7 @@ fn restart_each(links: &mut Vec<Link>, side: Side, indexes: &[usize])
 }
 
 /// The side starts anew, as far as the link of a connection goes, if there is one.
-fn restart_on(links: &mut Vec<Link>, side: Side, conn: Option<Conn>)
+fn restart_on_link(links: &mut Vec<Link>, side: Side, conn: Option<Conn>)
     ensures { as_links links.new.items ≡ restart_each (as_side side) (numbers conn) (as_links links.old.items) }
 {
     match conn {
@@ -62,7 +62,7 @@ impl Net {
         if made.reserve(opener.other()).is_err() {
             return Err(WorldFault::NoMemory);
         }
-        let effect = self.tell(alloc, opener, Event::Ack(conn), None)?;
+        let effect = self.tell_side(alloc, opener, Event::Ack(conn), None)?;
         if let Effect::Done = effect {
             made.add(opener.other(), index);
         }
@@ -79,10 +79,10 @@ impl Net {
             (restart_links (as_side side) (as_links self.old.links.items)) (as_world self.old) }
         ensures cleared { AreCleared (as_side side) made.old made.new }
     {
-        restart_each(&mut self.links, side, made.of(side));
-        let peer = self.pair.of(side);
-        restart_on(&mut self.links, side, peer.initiated());
-        restart_on(&mut self.links, side, peer.accepted());
+        restart_each_link(&mut self.links, side, made.ends_made_for(side));
+        let peer = self.pair.peer_at(side);
+        restart_on_link(&mut self.links, side, peer.initiated());
+        restart_on_link(&mut self.links, side, peer.accepted());
         made.clear(side);
         self.pair.reset(side);
     }

@@ -12,7 +12,7 @@ use dm_peer::{Conn, Peer};
 const MAX_SENDS: usize = 4;
 
 /// Room on the link of a connection, if there is one.
-fn room_on(links: &mut Vec<Link>, side: Side, conn: Option<Conn>) -> Result<(), NoMemory>
+fn make_room_on(links: &mut Vec<Link>, side: Side, conn: Option<Conn>) -> Result<(), NoMemory>
     ensures same { as_links links.new.items ≡ as_links links.old.items }
     ensures room { OnOk result ((c : ℕ) → IsTrue (is_conn conn c) → HasRoom (as_side side) links.new.items 4 c) }
     ensures kept { (n c : ℕ) → HasRoom (as_side side) links.old.items n c → HasRoom (as_side side) links.new.items n c }
@@ -36,7 +36,7 @@ pub(crate) fn make_room(
     ensures same { as_links links.new.items ≡ as_links links.old.items }
     ensures room { OnOk result (HasRoomToSend (as_side side) links.new.items peer.now.standing.core named) }
 {
-    room_on(links, side, peer.initiated())?;
-    room_on(links, side, peer.accepted())?;
-    room_on(links, side, named)
+    make_room_on(links, side, peer.initiated())?;
+    make_room_on(links, side, peer.accepted())?;
+    make_room_on(links, side, named)
 }

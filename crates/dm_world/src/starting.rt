@@ -7,7 +7,7 @@ ghost use Rattle.dm_world.specs.InPlace.{is_closed_state};
 ghost use Rattle.dm_world.specs.Seen.{as_side};
 ghost use Rattle.dm_world.specs.Views.{as_world, Effects};
 
-use crate::following::perform;
+use crate::following::perform_actions;
 use crate::link::Link;
 use crate::net::Net;
 use crate::{Effect, Side};
@@ -35,11 +35,11 @@ impl Net {
         if self.links.reserve(1).is_err() {
             return Err(NoMemory);
         }
-        match self.pair.ask(alloc, side, Event::Start(conn))? {
+        match self.pair.ask_side(alloc, side, Event::Start(conn))? {
             None => Ok(Effect::Ignored),
             Some(actions) => {
                 self.links.push_reserved(Link::new(alloc, side));
-                perform(&mut self.links, side, actions);
+                perform_actions(&mut self.links, side, actions);
                 Ok(Effect::Done)
             }
         }
@@ -52,10 +52,10 @@ impl Net {
     {
         silent_takes_none();
         octets_are_frames();
-        match self.pair.ask(alloc, side, Event::Timeout) {
+        match self.pair.ask_side(alloc, side, Event::Timeout) {
             Ok(None) => Effect::Ignored,
             Ok(Some(actions)) => {
-                perform(&mut self.links, side, actions);
+                perform_actions(&mut self.links, side, actions);
                 Effect::Done
             }
             Err(_) => unreachable!(),

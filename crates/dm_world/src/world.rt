@@ -4,7 +4,7 @@ ghost use Rattle.dm_two_peers.specs.Laws.{world_of};
 ghost use Rattle.dm_octet_peers.specs.Laws.{fresh_peer};
 ghost use Rattle.dm_world.specs.New.{new_fault};
 
-use crate::agreement::{agree, open_on_both};
+use crate::agreement::{open_on_both, peers_agree};
 use crate::made::MadeEnds;
 use crate::net::Net;
 use crate::pair::Pair;
@@ -51,7 +51,7 @@ impl Debug for World {
 }
 
 /// Why there is no world of these configurations.
-fn fault_of(a: &Config, b: &Config) -> Option<NewFault>
+fn pairing_fault(a: &Config, b: &Config) -> Option<NewFault>
     ensures { result ≡ new_fault a.now b.now }
 {
     if !is_same_host(a.peer_host(), b.node().host()) {
@@ -131,7 +131,7 @@ impl World {
     pub fn peer(&self, side: Side) -> &Peer
         ensures { result.now ≡ peer_on (as_side side) self.now }
     {
-        self.net.pair.of(side)
+        self.net.pair.peer_at(side)
     }
 
     /// Whether the two sides agree. It never answers want of memory.
@@ -139,7 +139,7 @@ impl World {
         ensures value { result ≡ is_agreed self.now }
         ensures meaning { IsTrue result ↔ Agreed octet_peers self.now }
     {
-        agree(
+        peers_agree(
             &self.net.pair.a,
             &self.net.pair.b,
             self.net.links.as_slice(),
@@ -175,7 +175,7 @@ impl World {
         ensures fine { IfOk result (λ w. new_fault a b ≡ None) }
         ensures world { IfOk result (λ w. w ≡ world_of (fresh_peer a) (fresh_peer b)) }
     {
-        match fault_of(&a, &b) {
+        match pairing_fault(&a, &b) {
             Some(fault) => {
                 discard(a);
                 discard(b);

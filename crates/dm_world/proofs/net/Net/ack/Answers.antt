@@ -16,7 +16,7 @@ returns-then-not-is_pending-clause-step c =
 
 pub returns-in-Done-clause-step : goal.returns-in-Done-clause-step
 returns-in-Done-clause-step c =
-    ack_step c.in_ok-effect.effect (as_world c.args.self.now) (as_world c.tell.new.self) c.args.conn.0
+    ack_step c.in_ok-effect.effect (as_world c.args.self.now) (as_world c.tell_side.new.self) c.args.conn.0
     (as_link c.index-link.result.now)
     (link_found c.args.conn.0 c.in_ok-index.index c.args.self.now.links.items c.index-link.result.now
     c.in_ok-index.ensures.there c.index-link.ensures)
@@ -24,7 +24,7 @@ returns-in-Done-clause-step c =
 
 pub returns-in_default-clause-step : goal.returns-in_default-clause-step
 returns-in_default-clause-step c =
-    ack_step c.in_ok-effect.effect (as_world c.args.self.now) (as_world c.tell.new.self) c.args.conn.0
+    ack_step c.in_ok-effect.effect (as_world c.args.self.now) (as_world c.tell_side.new.self) c.args.conn.0
     (as_link c.index-link.result.now)
     (link_found c.args.conn.0 c.in_ok-index.index c.args.self.now.links.items c.index-link.result.now
     c.in_ok-index.ensures.there c.index-link.ensures)

@@ -18,7 +18,7 @@ returns-in_ok-message_comes-in-Message-clause-step c =
     subst (λ k. Effects outcome (happens octet_peers w (Delivers k s)) w next) there.0
     (message_step s c.in_ok-index.index outcome w next (as_link c.index.result.now)
     (link_at c.in_ok-index.index c.args.self.now.links.items c.index.result.now there.1 c.index.ensures)
-    (sym c.next.ensures ∙ c.in-Message.is) c.in_ok-message_comes-in-Message.ensures.step)
+    (sym c.coming_next_to.ensures ∙ c.in-Message.is) c.in_ok-message_comes-in-Message.ensures.step)
 
 pub returns-in_ok-disconnect_comes-in-Disconnect-clause-step :
     goal.returns-in_ok-disconnect_comes-in-Disconnect-clause-step
@@ -31,4 +31,4 @@ returns-in_ok-disconnect_comes-in-Disconnect-clause-step c =
     subst (λ k. Effects outcome (happens octet_peers w (Delivers k s)) w next) there.0
     (disconnect_step s c.in_ok-index.index outcome w next (as_link c.index.result.now)
     (link_at c.in_ok-index.index c.args.self.now.links.items c.index.result.now there.1 c.index.ensures)
-    (sym c.next.ensures ∙ c.in-Disconnect.is) c.in_ok-disconnect_comes-in-Disconnect.ensures.step)
+    (sym c.coming_next_to.ensures ∙ c.in-Disconnect.is) c.in_ok-disconnect_comes-in-Disconnect.ensures.step)

@@ -14,8 +14,8 @@ returns-then-not-is_pending-clause-step c =
 
 pub returns-clause-step : goal.returns-clause-step
 returns-clause-step c =
-    nack_step c.in_ok-tell.field-0 (as_world c.args.self.now) (as_world c.tell.new.self) c.args.conn.0
+    nack_step c.in_ok-tell_side.field-0 (as_world c.args.self.now) (as_world c.tell_side.new.self) c.args.conn.0
     (as_link c.index-link.result.now)
     (link_found c.args.conn.0 c.in_ok-index.index c.args.self.now.links.items c.index-link.result.now
     c.in_ok-index.ensures.there c.index-link.ensures)
-    (sym c.is_pending.ensures ∙ c.if-not-is_pending.false) c.in_ok-tell.ensures.step
+    (sym c.is_pending.ensures ∙ c.if-not-is_pending.false) c.in_ok-tell_side.ensures.step

@@ -8,37 +8,37 @@ use Rattle.dm_world.proofs.Silent.{silent_room}
 use Rattle.dm_world.proofs.Telling.{started, not_started, start_links}
 use Rattle.dm_world.proofs.net.Net.start.Goals as goal
 
-pub perform-requires-clause-frames : goal.perform-requires-clause-frames
-perform-requires-clause-frames c =
-    let answer = rw c.in-Some.is at c.in_ok-ask.ensures.answer in
+pub perform_actions-requires-clause-frames : goal.perform_actions-requires-clause-frames
+perform_actions-requires-clause-frames c =
+    let answer = rw c.in-Some.is at c.in_ok-ask_side.ensures.answer in
     c.octets_are_frames.ensures (peer_of (as_side c.args.side) c.args.self.now.pair)
-    (peer_of (as_side c.args.side) c.ask.new.self) (Start (conn c.len.result)) c.in-Some.actions.items
+    (peer_of (as_side c.args.side) c.ask_side.new.self) (Start (conn c.len.result)) c.in-Some.actions.items
     (λ i. omega arith) answer.0
 
-pub perform-requires-clause-room : goal.perform-requires-clause-room
-perform-requires-clause-room c =
-    let answer = rw c.in-Some.is at c.in_ok-ask.ensures.answer in
-    silent_room (as_side c.args.side) (Start (conn c.len.result)) c.args.self.now c.ask.new.self c.in-Some.actions
-    c.push_reserved.new.self.items c.silent_takes_none.ensures c.ask.ensures.shaped refl answer
+pub perform_actions-requires-clause-room : goal.perform_actions-requires-clause-room
+perform_actions-requires-clause-room c =
+    let answer = rw c.in-Some.is at c.in_ok-ask_side.ensures.answer in
+    silent_room (as_side c.args.side) (Start (conn c.len.result)) c.args.self.now c.ask_side.new.self c.in-Some.actions
+    c.push_reserved.new.self.items c.silent_takes_none.ensures c.ask_side.ensures.shaped refl answer
 
 pub returns-in-None-clause-step : goal.returns-in-None-clause-step
 returns-in-None-clause-step c =
-    let answer = rw c.in-None.is at c.in_ok-ask.ensures.answer in
+    let answer = rw c.in-None.is at c.in_ok-ask_side.ensures.answer in
     let n : c.len.result ≡ length (as_links c.args.self.now.links.items) =
     c.len.ensures ∙ c.args.self.now.links.ok.0 ∙ sym (length_links c.args.self.now.links.items) in
     not_started (as_side c.args.side) c.len.result c.args.self.now
-    (record { pair = c.ask.new.self; links = c.reserve.new.self }) n answer (ap as_links c.reserve.ensures.items)
+    (record { pair = c.ask_side.new.self; links = c.reserve.new.self }) n answer (ap as_links c.reserve.ensures.items)
 
 pub returns-in-Some-clause-step : goal.returns-in-Some-clause-step
 returns-in-Some-clause-step c =
-    let answer = rw c.in-Some.is at c.in_ok-ask.ensures.answer in
+    let answer = rw c.in-Some.is at c.in_ok-ask_side.ensures.answer in
     let n : c.len.result ≡ length (as_links c.args.self.now.links.items) =
     c.len.ensures ∙ c.args.self.now.links.ok.0 ∙ sym (length_links c.args.self.now.links.items) in
     started (as_side c.args.side) c.len.result c.args.self.now
-    (record { pair = c.ask.new.self; links = c.perform.new.links }) c.in-Some.actions n answer
+    (record { pair = c.ask_side.new.self; links = c.perform_actions.new.links }) c.in-Some.actions n answer
     (start_links (as_side c.args.side) c.in-Some.actions.items c.args.self.now.links.items c.reserve.new.self.items
     c.push_reserved.new.self.items _ c.new.result c.reserve.ensures.items c.push_reserved.ensures.items
-    c.new.ensures c.perform.ensures)
+    c.new.ensures c.perform_actions.ensures)
 
 pub returns-then-not-takes-clause-step : goal.returns-then-not-takes-clause-step
 returns-then-not-takes-clause-step c =

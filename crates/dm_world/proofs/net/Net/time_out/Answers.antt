@@ -6,25 +6,26 @@ use Rattle.dm_world.proofs.Silent.{silent_room, timeout_wants_none}
 use Rattle.dm_world.proofs.Telling.{done_step}
 use Rattle.dm_world.proofs.net.Net.time_out.Goals as goal
 
-pub perform-requires-clause-frames : goal.perform-requires-clause-frames
-perform-requires-clause-frames c =
+pub perform_actions-requires-clause-frames : goal.perform_actions-requires-clause-frames
+perform_actions-requires-clause-frames c =
     let answer = rw c.in-Ok-Some.field-0-is at c.in-Ok-Some.ensures.answer in
     c.octets_are_frames.ensures (peer_of (as_side c.args.side) c.args.self.now.pair)
-    (peer_of (as_side c.args.side) c.ask.new.self) Timeout c.in-Ok-Some.actions.items (λ i. omega arith) answer.0
+    (peer_of (as_side c.args.side) c.ask_side.new.self) Timeout c.in-Ok-Some.actions.items (λ i. omega arith) answer.0
 
-pub perform-requires-clause-room : goal.perform-requires-clause-room
-perform-requires-clause-room c =
+pub perform_actions-requires-clause-room : goal.perform_actions-requires-clause-room
+perform_actions-requires-clause-room c =
     let answer = rw c.in-Ok-Some.field-0-is at c.in-Ok-Some.ensures.answer in
-    silent_room (as_side c.args.side) Timeout c.args.self.now c.ask.new.self c.in-Ok-Some.actions
-    c.args.self.now.links.items c.silent_takes_none.ensures c.ask.ensures.shaped refl answer
+    silent_room (as_side c.args.side) Timeout c.args.self.now c.ask_side.new.self c.in-Ok-Some.actions
+    c.args.self.now.links.items c.silent_takes_none.ensures c.ask_side.ensures.shaped refl answer
 
 pub unreachable-requires : goal.unreachable-requires
 unreachable-requires c =
-    timeout_wants_none (as_side c.args.side) c.args.self.now c.silent_takes_none.ensures c.ask.ensures.shaped
+    timeout_wants_none (as_side c.args.side) c.args.self.now c.silent_takes_none.ensures c.ask_side.ensures.shaped
     c.in-Err.ensures.want
 
 pub returns-in-Ok-Some : goal.returns-in-Ok-Some
 returns-in-Ok-Some c =
     let answer = rw c.in-Ok-Some.field-0-is at c.in-Ok-Some.ensures.answer in
     done_step (as_side c.args.side) Timeout c.args.self.now
-    (record { pair = c.ask.new.self; links = c.perform.new.links }) c.in-Ok-Some.actions answer c.perform.ensures
+    (record { pair = c.ask_side.new.self; links = c.perform_actions.new.links }) c.in-Ok-Some.actions answer
+    c.perform_actions.ensures

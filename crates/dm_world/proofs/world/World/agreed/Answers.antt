@@ -13,7 +13,7 @@ returns c =
     let inside = as_world c.self.inside.net in
     let w = c.args.self.now in
     let is =
-    c.agree.ensures ∙ ap (λ ls. agrees inside.a.standing.core inside.b.standing.core (as_links ls))
+    c.peers_agree.ensures ∙ ap (λ ls. agrees inside.a.standing.core inside.b.standing.core (as_links ls))
     c.as_slice.ensures.value ∙ ap is_agreed c.self.view_is in
     record {
       value = is;

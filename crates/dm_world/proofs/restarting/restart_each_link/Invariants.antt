@@ -1,7 +1,7 @@
 use Rattle.std.proofs.Common.{◌≡◌, drop}
 use Rattle.dm_world.specs.Ends.{restart_each}
 use Rattle.dm_world.specs.Seen.{as_side, as_links}
-use Rattle.dm_world.proofs.restarting.restart_each.Given as goal
+use Rattle.dm_world.proofs.restarting.restart_each_link.Given as goal
 
 abbrev pub invariant-loop-index : goal.invariant-loop-index
 invariant-loop-index l = restart_each (as_side l.side) (drop l.index-index l.indexes)

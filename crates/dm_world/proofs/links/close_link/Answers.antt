@@ -1,6 +1,6 @@
 use Rattle.std.proofs.Common.{arith}
 use Rattle.dm_world.proofs.Changed.{changed, not_changed, room_moves}
-use Rattle.dm_world.proofs.links.close.Goals as goal
+use Rattle.dm_world.proofs.links.close_link.Goals as goal
 
 pub returns-then-index-len-clause-closed : goal.returns-then-index-len-clause-closed
 returns-then-index-len-clause-closed c =

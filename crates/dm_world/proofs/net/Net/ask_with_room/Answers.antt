@@ -5,7 +5,7 @@ use Rattle.dm_world.specs.Rooms.{HasRoomToSend, named}
 use Rattle.dm_world.specs.Seen.{as_side}
 use Rattle.dm_world.proofs.Sending.{SendLaws}
 use Rattle.dm_world.proofs.Telling.{can_send, room_seen}
-use Rattle.dm_world.proofs.net.Net.ask.Goals as goal
+use Rattle.dm_world.proofs.net.Net.ask_with_room.Goals as goal
 
 pub returns-clause-sends : goal.returns-clause-sends
 returns-clause-sends c =
@@ -17,7 +17,7 @@ returns-clause-sends c =
     } in
     let room : HasRoomToSend (as_side c.args.side) c.make_room.new.links.items
     (peer_of (as_side c.args.side) c.args.self.now.pair).standing.core (named (as_event (event_told c.args.event))) =
-    room_seen _ _ _ _ _ _ c.of.ensures c.named.ensures c.in_ok-make_room.ensures.room in
-    can_send c.ask.result (as_side c.args.side) (event_told c.args.event) c.args.self.now.pair c.ask.new.self
-    c.make_room.new.links.items laws c.octets_are_frames.ensures c.requires.octets c.ask.ensures.shaped room
-    c.ask.ensures.answer
+    room_seen _ _ _ _ _ _ c.peer_at.ensures c.named_link.ensures c.in_ok-make_room.ensures.room in
+    can_send c.ask_side.result (as_side c.args.side) (event_told c.args.event) c.args.self.now.pair c.ask_side.new.self
+    c.make_room.new.links.items laws c.octets_are_frames.ensures c.requires.octets c.ask_side.ensures.shaped room
+    c.ask_side.ensures.answer

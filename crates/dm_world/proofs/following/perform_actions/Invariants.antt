@@ -4,7 +4,7 @@ use Rattle.dm_octet_peers.specs.Frames.{SendFrames}
 use Rattle.dm_octet_peers.specs.Octets.{as_actions}
 use Rattle.dm_world.specs.Rooms.{HasRoomFor}
 use Rattle.dm_world.specs.Seen.{as_side, as_links}
-use Rattle.dm_world.proofs.following.perform.Given as goal
+use Rattle.dm_world.proofs.following.perform_actions.Given as goal
 
 abbrev pub invariant-loop-action : goal.invariant-loop-action
 invariant-loop-action l = record {

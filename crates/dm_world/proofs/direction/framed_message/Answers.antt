@@ -2,7 +2,7 @@ use Rattle.std.proofs.Common.{None, [], ap, ◌∙◌}
 use Rattle.std.proofs.lemmas.Result.{err_from_is_err_and}
 use Rattle.dm_framer.specs.Stream.{Stream}
 use Rattle.dm_world.proofs.Fed.{fed_whole, fed_framed}
-use Rattle.dm_world.proofs.direction.frame_out.Goals as goal
+use Rattle.dm_world.proofs.direction.framed_message.Goals as goal
 
 pub returns-in_err-message-clause-memory : goal.returns-in_err-message-clause-memory
 returns-in_err-message-clause-memory c =
