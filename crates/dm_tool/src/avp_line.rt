@@ -16,7 +16,7 @@ use std::alloc::{AllocError, Global};
 pub fn read_avp(alloc: Global, line: &[u8]) -> Result<Option<Avp>, AllocError>
     ensures { IfOk result (λ read. MatchOption read ((a : Avp) → TellsAvp a line.now → ⊥) (λ a. TellsAvp a line.now)) }
 {
-    let Some(told) = read_words(line) else {
+    let Some(told) = read_avp_words(line) else {
         return Ok(None);
     };
     let Some(bytes) = read_data(alloc, told.word)? else {
@@ -41,14 +41,14 @@ struct AvpWords<'a> {
     word: &'a [u8],
 }
 
-fn read_words(line: &[u8]) -> Option<AvpWords<'_>>
+fn read_avp_words(line: &[u8]) -> Option<AvpWords<'_>>
     ensures told { IfSome result (λ p. (code : List ℕ) × TellsCode p.code p.vendor code
         × (words line.now ≡ code ∷ avp_marks (is_some p.vendor) p.mandatory p.protected ∷ p.word.now ∷ [])) }
     ensures none { IfNone result ((a : Avp) → TellsAvp a line.now → ⊥) }
 {
     let (first, second, word) = three_words(line)?;
     let (code, vendor) = read_code(first)?;
-    let (mandatory, protected) = read_flags(second, vendor.is_some())?;
+    let (mandatory, protected) = read_avp_flags(second, vendor.is_some())?;
     Some(AvpWords {
         code,
         vendor,
@@ -78,7 +78,7 @@ fn read_code(word: &[u8]) -> Option<(u32, Option<u32>)>
     ensures told { IfSome result (λ read. TellsCode read.0 read.1 word.now) }
     ensures none { IfNone result ((code : ℕ) (vendor : Option ℕ) → TellsCode code vendor word.now → ⊥) }
 {
-    match slash(word) {
+    match slash_position(word) {
         Some(at) => {
             let code = read_number(&word[..at])?;
             let vendor = read_number(&word[at + 1..])?;
@@ -91,14 +91,14 @@ fn read_code(word: &[u8]) -> Option<(u32, Option<u32>)>
     }
 }
 
-fn slash(word: &[u8]) -> Option<usize>
+fn slash_position(word: &[u8]) -> Option<usize>
     ensures { result ≡ position (λ b. b == 47) word.now }
 {
     word.iter().position(|b| *b == b'/')
 }
 
 /// Whether M and P are set. V stands just where there is a vendor.
-fn read_flags(word: &[u8], has_vendor: bool) -> Option<(bool, bool)>
+fn read_avp_flags(word: &[u8], has_vendor: bool) -> Option<(bool, bool)>
     ensures told { IfSome result (λ f. word.now ≡ avp_marks has_vendor f.0 f.1) }
     ensures none { IfNone result ((m p : Bool) → word.now ≡ avp_marks has_vendor m p → ⊥) }
 {

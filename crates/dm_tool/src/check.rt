@@ -28,13 +28,17 @@ pub fn check_with_dictionary(alloc: Global, input: &[u8]) -> Result<(Vec<u8>, bo
     ensures fault { IfErr result (λ e. e ≡ ToolFault.Memory) }
 {
     let base = Dictionary::base(alloc)?;
-    let checked = check_over(alloc, &base, input);
+    let checked = check_text_over(alloc, &base, input);
     drop(base);
     checked
 }
 
 /// The text for an input that begins with a dictionary over the base one.
-fn check_over(alloc: Global, base: &Dictionary, input: &[u8]) -> Result<(Vec<u8>, bool), ToolFault>
+fn check_text_over(
+    alloc: Global,
+    base: &Dictionary,
+    input: &[u8],
+) -> Result<(Vec<u8>, bool), ToolFault>
     requires base { base.now ≡ base_definitions }
     ensures checked { IfOk result (λ checked. ChecksWithDictionary input.now checked.0.items checked.1) }
     ensures fault { IfErr result (λ e. e ≡ ToolFault.Memory) }
@@ -46,12 +50,12 @@ fn check_over(alloc: Global, base: &Dictionary, input: &[u8]) -> Result<(Vec<u8>
             drop(dictionary);
             checked
         }
-        Err(fault) => refused(alloc, fault),
+        Err(fault) => refusal_text(alloc, fault),
     }
 }
 
 /// The text for a dictionary's fault.
-fn refused(alloc: Global, fault: DictFault) -> Result<(Vec<u8>, bool), ToolFault>
+fn refusal_text(alloc: Global, fault: DictFault) -> Result<(Vec<u8>, bool), ToolFault>
     ensures words { IfOk result (λ printed. printed.0.items ≡ dictionary_fault_text fault ++ 10 ∷ []) }
     ensures known { IfOk result (λ printed. fault ≢ dict.NoMemory) }
     ensures bad { IfOk result (λ printed. printed.1 ≡ false) }

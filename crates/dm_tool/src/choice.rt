@@ -26,14 +26,14 @@ pub fn choose(words: &[String]) -> Option<Choice>
     ensures refused { IfNone result ((choice : Choice) → map string_bytes words.now ≡ words_of choice → ⊥) }
 {
     match words {
-        [word] => of_word(word.as_str()),
-        [word, option] => with_option(word.as_str(), option.as_str()),
+        [word] => choice_of_word(word.as_str()),
+        [word, option] => choice_with_option(word.as_str(), option.as_str()),
         _ => None,
     }
 }
 
 /// The command that one word chooses.
-fn of_word(word: &str) -> Option<Choice>
+fn choice_of_word(word: &str) -> Option<Choice>
     ensures chosen { IfSome result (λ choice. word.now ∷ [] ≡ words_of choice) }
     ensures refused { IfNone result ((choice : Choice) → word.now ∷ [] ≡ words_of choice → ⊥) }
 {
@@ -47,7 +47,7 @@ fn of_word(word: &str) -> Option<Choice>
 }
 
 /// The command that a word and its option choose.
-fn with_option(word: &str, option: &str) -> Option<Choice>
+fn choice_with_option(word: &str, option: &str) -> Option<Choice>
     ensures chosen { IfSome result (λ choice. word.now ∷ option.now ∷ [] ≡ words_of choice) }
     ensures refused { IfNone result ((choice : Choice) → word.now ∷ option.now ∷ [] ≡ words_of choice → ⊥) }
 {

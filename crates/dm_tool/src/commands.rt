@@ -10,7 +10,7 @@ ghost use Rattle.dm_tool.specs.Show.{ShowsText};
 
 use crate::choice::Choice;
 use crate::fault::ToolFault;
-use crate::run::run;
+use crate::run::run_choice;
 use std::alloc::Global;
 use std::io::{Read, Write};
 
@@ -26,7 +26,7 @@ pub fn run_show<R: Read, W: Write>(
     ensures { RanTool ShowsText (R.remaining reader.old) (R.remaining reader.new)
         (W.contents writer.old) (W.contents writer.new) result }
 {
-    run(alloc, Choice::Show, reader, writer)
+    run_choice(alloc, Choice::Show, reader, writer)
 }
 
 /// Reads Diameter messages in hexadecimal, one a line, and writes of each whether it is good, or its first fault:
@@ -46,7 +46,7 @@ pub fn run_check<R: Read, W: Write>(
     ensures { RanTool (Checks with_dict) (R.remaining reader.old) (R.remaining reader.new)
         (W.contents writer.old) (W.contents writer.new) result }
 {
-    run(alloc, Choice::Check { with_dict }, reader, writer)
+    run_choice(alloc, Choice::Check { with_dict }, reader, writer)
 }
 
 /// Reads Diameter messages as show prints them, and writes each as one line of lower case hexadecimal. True where
@@ -63,7 +63,7 @@ pub fn run_build<R: Read, W: Write>(
     ensures { RanTool BuildsText (R.remaining reader.old) (R.remaining reader.new)
         (W.contents writer.old) (W.contents writer.new) result }
 {
-    run(alloc, Choice::Build, reader, writer)
+    run_choice(alloc, Choice::Build, reader, writer)
 }
 
 /// Reads a script of two peers, and writes a line for each happening: its number, whether it was done or ignored,
@@ -82,5 +82,5 @@ pub fn run_replay<R: Read, W: Write>(
     ensures { RanTool ReplaysText (R.remaining reader.old) (R.remaining reader.new)
         (W.contents writer.old) (W.contents writer.new) result }
 {
-    run(alloc, Choice::Replay, reader, writer)
+    run_choice(alloc, Choice::Replay, reader, writer)
 }

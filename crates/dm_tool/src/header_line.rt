@@ -15,9 +15,9 @@ pub fn read_header(line: &[u8]) -> Option<Header>
     ensures none { IfNone result ((h : Header) → TellsHeader h line.now → ⊥) }
 {
     let mut words = Words::new(line);
-    let command = named_number(&mut words, b"message")?;
-    let flags = read_flags(words.next()?)?;
-    let names = read_names(&mut words)?;
+    let command = read_named_number(&mut words, b"message")?;
+    let flags = read_header_flags(words.next()?)?;
+    let names = read_header_numbers(&mut words)?;
     Some(Header {
         request: flags.request,
         proxiable: flags.proxiable,
@@ -39,13 +39,13 @@ struct Names {
 }
 
 /// The numbers that the words left tell, each behind its name, where no more words are left.
-fn read_names(left: &mut Words<'_>) -> Option<Names>
+fn read_header_numbers(left: &mut Words<'_>) -> Option<Names>
     ensures told { IfSome result (λ n. TellsNames n.application n.hop_id n.end_id (words left.old)) }
     ensures none { IfNone result ((a h e : ℕ) → TellsNames a h e (words left.old) → ⊥) }
 {
-    let application = named_number(left, b"app")?;
-    let hop_id = named_number(left, b"hop")?;
-    let end_id = named_number(left, b"end")?;
+    let application = read_named_number(left, b"app")?;
+    let hop_id = read_named_number(left, b"hop")?;
+    let end_id = read_named_number(left, b"end")?;
     if left.next().is_some() {
         return None;
     }
@@ -57,7 +57,7 @@ fn read_names(left: &mut Words<'_>) -> Option<Names>
 }
 
 /// The number behind this name, where these are the next two words.
-fn named_number(left: &mut Words<'_>, name: &[u8]) -> Option<u32>
+fn read_named_number(left: &mut Words<'_>, name: &[u8]) -> Option<u32>
     ensures told { IfSome result (λ n. (digits : List ℕ)
         × (words left.old ≡ name.now ∷ digits ∷ words left.new) × TellsNumber n digits) }
     ensures none { IfNone result ((n : ℕ) (digits : List ℕ) (more : List (List ℕ))
@@ -80,7 +80,7 @@ struct Flags {
 }
 
 /// The flags that a word tells, each by its letter or `-` in its place.
-fn read_flags(word: &[u8]) -> Option<Flags>
+fn read_header_flags(word: &[u8]) -> Option<Flags>
     ensures told { IfSome result (λ f. word.now ≡ header_marks f.request f.proxiable f.error f.retransmit) }
     ensures none { IfNone result ((r p e t : Bool) → word.now ≡ header_marks r p e t → ⊥) }
 {

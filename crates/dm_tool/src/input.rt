@@ -52,14 +52,14 @@ pub fn read_input<S: Source>(alloc: Global, reader: &mut S) -> Result<Vec<u8>, T
     ensures read { S.never_fails ≡ true → IsErrOf result ToolFault.Read → HasMost (S.left reader.old) }
 {
     let mut input = Vec::new(alloc);
-    match fill(reader, &mut input)? {
+    match read_to_stop(reader, &mut input)? {
         Stop::End => Ok(input),
         Stop::Failed | Stop::TooLong | Stop::TooMany => Err(ToolFault::Read),
     }
 }
 
 /// Reads up to the end, or to where reading stops before it.
-fn fill<S: Source>(reader: &mut S, input: &mut Vec<u8>) -> Result<Stop, AllocError>
+fn read_to_stop<S: Source>(reader: &mut S, input: &mut Vec<u8>) -> Result<Stop, AllocError>
     requires { input.old.items ≡ [] }
     ensures held { OnOk result (Consumes (S.left reader.old) (S.left reader.new) input.new.items) }
     ensures end { IfOk result (λ stop. stop ≡ Stop.End → IsAtEnd (S.left reader.new)) }

@@ -55,15 +55,15 @@ pub fn run_program<S: Source, W: Write, E: Write>(
         Ok(words) => {
             let outcome = run_chosen(alloc, words.as_slice(), reader, writer);
             drop(words);
-            finish(outcome, errors)
+            end_with_outcome(outcome, errors)
         }
-        Err(WordsFault::NotText) => finish(None, errors),
-        Err(WordsFault::NoMemory) => finish(Some(Err(ToolFault::Memory)), errors),
+        Err(WordsFault::NotText) => end_with_outcome(None, errors),
+        Err(WordsFault::NoMemory) => end_with_outcome(Some(Err(ToolFault::Memory)), errors),
     }
 }
 
 /// The status for an outcome, once its words stand on standard error.
-fn finish<E: Write>(outcome: Option<Result<bool, ToolFault>>, errors: &mut E) -> Ended
+fn end_with_outcome<E: Write>(outcome: Option<Result<bool, ToolFault>>, errors: &mut E) -> Ended
     ensures outcome { result.outcome ≡ outcome }
     ensures status { result.status ≡ (tool_ending outcome).0 }
     ensures told { result.told ≡ true →

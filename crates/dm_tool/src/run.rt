@@ -55,11 +55,11 @@ pub fn run_chosen<S: Source, W: Write>(
     ensures unwritten { IfNone result (writer.new ≡ writer.old) }
 {
     let choice = choose(words)?;
-    Some(run(alloc, choice, reader, writer))
+    Some(run_choice(alloc, choice, reader, writer))
 }
 
 /// Runs the command over all that the source gives. True where all of it was good.
-pub fn run<S: Source, W: Write>(
+pub fn run_choice<S: Source, W: Write>(
     alloc: Global,
     choice: Choice,
     reader: &mut S,
@@ -70,7 +70,7 @@ pub fn run<S: Source, W: Write>(
     ensures read { S.never_fails ≡ true → IsErrOf result ToolFault.Read → HasMost (S.left reader.old) }
 {
     let input = read_input(alloc, reader)?;
-    let (text, good) = text_of(alloc, choice, input.as_slice())?;
+    let (text, good) = command_text(alloc, choice, input.as_slice())?;
     match write_text(writer, text.as_slice()) {
         Ok(()) => Ok(good),
         Err(_) => Err(ToolFault::Write),
@@ -78,7 +78,7 @@ pub fn run<S: Source, W: Write>(
 }
 
 /// The text of the command for an input, and whether all of it is good.
-fn text_of(alloc: Global, choice: Choice, input: &[u8]) -> Result<(Vec<u8>, bool), ToolFault>
+fn command_text(alloc: Global, choice: Choice, input: &[u8]) -> Result<(Vec<u8>, bool), ToolFault>
     ensures printed { IfOk result (λ printed. Prints choice input.now printed.0.items printed.1) }
     ensures fault { IfErr result (λ e. e ≡ ToolFault.Memory) }
 {

@@ -26,12 +26,12 @@ pub fn push_judged(alloc: Global, text: &mut Vec<u8>, judged: Judged<'_>) -> Res
             code,
             failed: Failed::Found(avp),
         } => {
-            push_bad(text, code, Some(avp))?;
+            push_bad_line(text, code, Some(avp))?;
             Ok(false)
         }
         _ => {
             let verdict = judged.verdict(alloc)?;
-            let good = push_verdict(text, &verdict);
+            let good = push_verdict_line(text, &verdict);
             drop(verdict);
             Ok(good?)
         }
@@ -39,19 +39,27 @@ pub fn push_judged(alloc: Global, text: &mut Vec<u8>, judged: Judged<'_>) -> Res
 }
 
 /// Appends the line for a verdict, and tells whether it is good.
-fn push_verdict(text: &mut Vec<u8>, verdict: &Verdict) -> Result<bool, AllocError>
+fn push_verdict_line(text: &mut Vec<u8>, verdict: &Verdict) -> Result<bool, AllocError>
     ensures line { OnOk result (text.new.items ≡ text.old.items ++ (verdict_line verdict.now).0) }
     ensures good { IfOk result (λ good. good ≡ is_good_verdict verdict.now) }
 {
     match verdict {
         Verdict::Good => text.extend_from_slice(b"good\n")?,
-        Verdict::Bad { code, failed } => push_bad(text, *code, failed.as_ref().map(Avp::borrowed))?,
+        Verdict::Bad { code, failed } => push_bad_line(
+            text,
+            *code,
+            failed.as_ref().map(Avp::borrowed),
+        )?,
     }
     Ok(matches!(verdict, Verdict::Good))
 }
 
 /// Appends the line for a fault: its Result-Code and the failed AVP, where there is one.
-fn push_bad(text: &mut Vec<u8>, code: u32, failed: Option<AvpRef<'_>>) -> Result<(), AllocError>
+fn push_bad_line(
+    text: &mut Vec<u8>,
+    code: u32,
+    failed: Option<AvpRef<'_>>,
+) -> Result<(), AllocError>
     ensures { OnOk result (text.new.items
         ≡ text.old.items ++ verdict_text (Verdict.Bad code (option_map avp_of failed.entry)) ++ 10 ∷ []) }
 {

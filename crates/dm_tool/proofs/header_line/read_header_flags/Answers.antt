@@ -1,6 +1,6 @@
 use Rattle.std.proofs.Common.{ap, slice_index_or}
 use Rattle.dm_tool.proofs.Options.{none-anyway}
-use Rattle.dm_tool.proofs.header_line.read_flags.Goals as goal
+use Rattle.dm_tool.proofs.header_line.read_header_flags.Goals as goal
 
 pub returns-in_err-request-clause-none : goal.returns-in_err-request-clause-none
 returns-in_err-request-clause-none c =

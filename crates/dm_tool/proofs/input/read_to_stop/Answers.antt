@@ -5,8 +5,8 @@ use Rattle.std.specs.Io.KnownBytes.{Consumes}
 use Rattle.std.proofs.KnownBytes.{Consumes-trans, Consumes-kept}
 use Rattle.dm_tool.specs.Limits.{input_limit}
 use Rattle.dm_tool.proofs.Known.{Consumes-more}
-use Rattle.dm_tool.proofs.input.fill.Goals as goal
-use Rattle.dm_tool.proofs.input.fill.Goals.{in-Ok+in_ok-extend_from_slice-in-Ok+else-len-gt-INPUT_LIMIT, in-Err+else-ne}
+use Rattle.dm_tool.proofs.input.read_to_stop.Goals as goal
+use Rattle.dm_tool.proofs.input.read_to_stop.Goals.{in-Ok+in_ok-extend_from_slice-in-Ok+else-len-gt-INPUT_LIMIT, in-Err+else-ne}
 
 pub returns-in_err-extend_from_slice-in-Ok-clause-taken : goal.returns-in_err-extend_from_slice-in-Ok-clause-taken
 returns-in_err-extend_from_slice-in-Ok-clause-taken g c = (

@@ -1,6 +1,6 @@
 use Rattle.std.proofs.Common.{ap, slice_index_or}
 use Rattle.dm_tool.proofs.Options.{none-then}
-use Rattle.dm_tool.proofs.avp_line.read_flags.Goals as goal
+use Rattle.dm_tool.proofs.avp_line.read_avp_flags.Goals as goal
 
 pub returns-clause-none : goal.returns-clause-none
 returns-clause-none c =

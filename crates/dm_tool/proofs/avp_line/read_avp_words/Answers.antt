@@ -4,7 +4,7 @@ use Rattle.dm_tool.specs.AvpWords.{TellsCode}
 use Rattle.dm_tool.proofs.Options.{none-anyway}
 use Rattle.dm_tool.proofs.Places.{first, second_of}
 use Rattle.dm_tool.proofs.Slashes.{one_code}
-use Rattle.dm_tool.proofs.avp_line.read_words.Goals as goal
+use Rattle.dm_tool.proofs.avp_line.read_avp_words.Goals as goal
 
 pub returns-in_err-mandatory-clause-none : goal.returns-in_err-mandatory-clause-none
 returns-in_err-mandatory-clause-none c =
