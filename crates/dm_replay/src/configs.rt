@@ -12,7 +12,7 @@ use dm_peer::{Config, ConfigFault};
 use std::alloc::{AllocError, Global};
 
 /// The node of a peer.
-fn node(alloc: Global, own: HostLine<'_>) -> Result<Node, AllocError>
+fn node_of_host(alloc: Global, own: HostLine<'_>) -> Result<Node, AllocError>
     requires { is_name own.host.now ≡ true }
     ensures { IfOk result (IsNodeOfHost (line_host own.entry)) }
 {
@@ -36,7 +36,7 @@ pub fn config(alloc: Global, own: HostLine<'_>, other: HostLine<'_>) -> Result<C
     requires differ { lower own.host.now ≡ lower other.host.now → ⊥ }
     ensures { IfOk result (IsConfigOf (line_host own.entry) (line_host other.entry)) }
 {
-    let node = node(alloc, own)?;
+    let node = node_of_host(alloc, own)?;
     let peer = Vec::from_slice(alloc, other.host)?;
     match Config::new(alloc, node, peer, 1) {
         Ok(config) => Ok(config),
@@ -48,7 +48,7 @@ pub fn config(alloc: Global, own: HostLine<'_>, other: HostLine<'_>) -> Result<C
 }
 
 /// The configuration of the other peer for the first one, whose dictionary it has.
-pub fn config_beside(
+pub fn config_with_dictionary_of(
     alloc: Global,
     first: &Config,
     own: HostLine<'_>,
@@ -59,7 +59,7 @@ pub fn config_beside(
     requires differ { lower own.host.now ≡ lower other.host.now → ⊥ }
     ensures { IfOk result (IsConfigOf (line_host own.entry) (line_host other.entry)) }
 {
-    let node = node(alloc, own)?;
+    let node = node_of_host(alloc, own)?;
     let peer = Vec::from_slice(alloc, other.host)?;
     match first.for_node(node, peer, 1) {
         Ok(config) => Ok(config),

@@ -27,7 +27,7 @@ pub fn read_host_line(side: Side, line: &[u8]) -> Option<HostLine<'_>>
     ensures none { IfNone result ((h : Host) → TellsHost side h line.now → ⊥) }
 {
     let mut left = Words::new(line);
-    begin(&mut left, side)?;
+    take_peer_and_side(&mut left, side)?;
     let (host, application) = host_and_number(&mut left)?;
     if !is_name(host) {
         return None;
@@ -36,7 +36,7 @@ pub fn read_host_line(side: Side, line: &[u8]) -> Option<HostLine<'_>>
 }
 
 /// The words `peer` and the side's name.
-fn begin(left: &mut Words<'_>, side: Side) -> Option<()>
+fn take_peer_and_side(left: &mut Words<'_>, side: Side) -> Option<()>
     ensures told { IfSome result (λ _. words left.old ≡ codes "peer" ∷ side_name side ∷ words left.new) }
     ensures none { IfNone result ((more : List (List ℕ)) → words left.old ≡ codes "peer" ∷ side_name side ∷ more → ⊥) }
 {

@@ -5,7 +5,7 @@ ghost use Rattle.dm_replay.specs.declared.fault.ScriptFault.{ScriptFault};
 ghost use Rattle.dm_replay.specs.Replay.{replay_from, script_text, text_of, ReplaysText};
 
 use crate::fault::ScriptFault;
-use crate::replay_lines::{push_end, push_nolink, push_trace};
+use crate::replay_lines::{push_end_line, push_nolink_line, push_trace};
 use crate::script::Script;
 use crate::whole_script::read_script;
 use dm_dict::NoMemory;
@@ -40,7 +40,7 @@ fn script_text(alloc: Global, script: Script) -> Result<(Vec<u8>, bool), NoMemor
     match World::new(alloc, left, right) {
         Ok(mut world) => {
             let mut text = Vec::new(alloc);
-            let good = replay(alloc, &mut world, list.as_slice(), &mut text);
+            let good = push_replay_lines(alloc, &mut world, list.as_slice(), &mut text);
             drop(world);
             Ok((text, good?))
         }
@@ -53,7 +53,7 @@ fn script_text(alloc: Global, script: Script) -> Result<(Vec<u8>, bool), NoMemor
 }
 
 /// Appends the lines for these happenings and the last line. False where one names a link that isn't there.
-fn replay(
+fn push_replay_lines(
     alloc: Global,
     world: &mut World,
     list: &[Happening],
@@ -69,14 +69,14 @@ fn replay(
         match world.apply(alloc, happening) {
             Ok(effect) => push_trace(text, count, effect, world)?,
             Err(WorldFault::NoLink) => {
-                push_nolink(text, count)?;
+                push_nolink_line(text, count)?;
                 return Ok(false);
             }
             Err(WorldFault::NoMemory) => return Err(NoMemory),
         }
         rest = more;
     }
-    push_end(text, world)?;
+    push_end_line(text, world)?;
     Ok(true)
 }
 

@@ -44,7 +44,7 @@ pub fn push_trace(
 }
 
 /// Appends the line of happening `number`, which names a link that isn't there.
-pub fn push_nolink(text: &mut Vec<u8>, number: usize) -> Result<(), AllocError>
+pub fn push_nolink_line(text: &mut Vec<u8>, number: usize) -> Result<(), AllocError>
     ensures { OnOk result (text.new.items ≡ text.old.items ++ nolink_line number) }
 {
     push_decimal(text, number as u64)?;
@@ -53,13 +53,13 @@ pub fn push_nolink(text: &mut Vec<u8>, number: usize) -> Result<(), AllocError>
 }
 
 /// Appends the last line.
-pub fn push_end(text: &mut Vec<u8>, world: &World) -> Result<(), AllocError>
+pub fn push_end_line(text: &mut Vec<u8>, world: &World) -> Result<(), AllocError>
     ensures { OnOk result (text.new.items ≡ text.old.items ++ end_line world.now) }
 {
     text.extend_from_slice(b"end agreed=")?;
-    push_answer(text, world.agreed())?;
+    push_yes_or_no(text, world.agreed())?;
     text.extend_from_slice(b" quiet=")?;
-    push_answer(text, world.quiet())?;
+    push_yes_or_no(text, world.quiet())?;
     text.extend_from_slice(b" open=")?;
     push_link(text, world.open_link())?;
     text.push(b'\n')?;
@@ -101,7 +101,7 @@ fn push_held(text: &mut Vec<u8>, letter: &[u8], held: Option<Conn>) -> Result<()
     Ok(())
 }
 
-fn push_answer(text: &mut Vec<u8>, answer: bool) -> Result<(), AllocError>
+fn push_yes_or_no(text: &mut Vec<u8>, answer: bool) -> Result<(), AllocError>
     ensures { OnOk result (text.new.items ≡ text.old.items ++ answer_text answer) }
 {
     if answer {

@@ -7,7 +7,7 @@ ghost use Rattle.dm_replay.specs.declared.fault.ScriptFault.{ScriptFault};
 ghost use Rattle.dm_replay.specs.declared.script.Script.{Script};
 ghost use Rattle.dm_replay.specs.ReadScript.{IsConfigOf, IsReading};
 
-use crate::configs::{config, config_beside};
+use crate::configs::{config, config_with_dictionary_of};
 use crate::fault::ScriptFault;
 use crate::happening_list::HappeningList;
 use crate::laws::one_replay;
@@ -28,11 +28,11 @@ pub fn read_script(alloc: Global, text: &[u8]) -> Result<Option<Script>, ScriptF
         → (result ≡ read) ⊎ (result ≡ Err ScriptFault.NoMemory) }
 {
     one_replay();
-    script_in(alloc, text)
+    read_whole_script(alloc, text)
 }
 
 /// What the text is read as.
-fn script_in(alloc: Global, text: &[u8]) -> Result<Option<Script>, ScriptFault>
+fn read_whole_script(alloc: Global, text: &[u8]) -> Result<Option<Script>, ScriptFault>
     ensures { (result ≡ Err ScriptFault.NoMemory) ⊎ IsReading text.now result }
 {
     match read_lines(alloc, text)? {
@@ -56,7 +56,7 @@ fn script_of(alloc: Global, lines: ScriptLines<'_>) -> Result<Script, AllocError
     ensures list { IfOk result (λ s. s.list ≡ lines.entry.list.items) }
 {
     let left = config(alloc, lines.left, lines.right)?;
-    let right = config_beside(alloc, &left, lines.right, lines.left)?;
+    let right = config_with_dictionary_of(alloc, &left, lines.right, lines.left)?;
     Ok(Script {
         left,
         right,

@@ -2,7 +2,7 @@ use Rattle.std.proofs.Common.{inr, List, sym, subst}
 use Rattle.dm_world.specs.declared.happening.Happening.{Happening}
 use Rattle.dm_replay.specs.Scripts.{TellsScript}
 use Rattle.dm_replay.specs.LinesSoFar.{line_host}
-use Rattle.dm_replay.proofs.whole_script.script_in.Goals as goal
+use Rattle.dm_replay.proofs.whole_script.read_whole_script.Goals as goal
 
 pub returns-in_ok-script_of-in-Some : goal.returns-in_ok-script_of-in-Some
 returns-in_ok-script_of-in-Some c =

@@ -1,6 +1,6 @@
 use Rattle.std.proofs.Common.{◌≡◌, ◌++◌, ◌+◌, length}
 use Rattle.dm_replay.specs.Replay.{replay_from}
-use Rattle.dm_replay.proofs.replay.replay.Given as goal
+use Rattle.dm_replay.proofs.replay.push_replay_lines.Given as goal
 
 -- what is still to come fills the text up
 abbrev pub invariant-script : goal.invariant-script

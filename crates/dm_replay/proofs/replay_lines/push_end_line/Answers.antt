@@ -1,6 +1,6 @@
 use Rattle.std.proofs.Common.{append_assoc}
 use Rattle.dm_replay.specs.ReplayLines.{end_line}
-use Rattle.dm_replay.proofs.replay_lines.push_end.Goals as goal
+use Rattle.dm_replay.proofs.replay_lines.push_end_line.Goals as goal
 
 pub returns : goal.returns
 unfolding end_line
@@ -9,9 +9,9 @@ returns c =
       c.in_ok-push.ensures.items,
       c.in_ok-push_link.ensures,
       c.in_ok-extend_from_slice-3.ensures.items,
-      c.in_ok-push_answer-2.ensures,
+      c.in_ok-push_yes_or_no-2.ensures,
       c.in_ok-extend_from_slice-2.ensures.items,
-      c.in_ok-push_answer.ensures,
+      c.in_ok-push_yes_or_no.ensures,
       c.in_ok-extend_from_slice.ensures.items,
       c.agreed.ensures.value,
       c.quiet.ensures,

@@ -1,6 +1,6 @@
 use Rattle.std.proofs.Common.{append_assoc}
 use Rattle.dm_replay.specs.ReplayLines.{nolink_line}
-use Rattle.dm_replay.proofs.replay_lines.push_nolink.Goals as goal
+use Rattle.dm_replay.proofs.replay_lines.push_nolink_line.Goals as goal
 
 pub returns : goal.returns
 unfolding nolink_line

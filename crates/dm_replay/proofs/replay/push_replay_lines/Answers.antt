@@ -5,7 +5,7 @@ use Rattle.dm_world.specs.Happening.{as_happening}
 use Rattle.dm_replay.specs.ReplayLines.{trace_line}
 use Rattle.dm_replay.specs.Replay.{replay_from}
 use Rattle.dm_replay.proofs.NextHappening.{effect_line, go_on, cut_first}
-use Rattle.dm_replay.proofs.replay.replay.Goals as goal
+use Rattle.dm_replay.proofs.replay.push_replay_lines.Goals as goal
 
 pub script-preserved : goal.script-preserved
 script-preserved c =
