@@ -29,7 +29,7 @@ pub struct Report {
 }
 
 /// What the peer does at the event, or the rule by which it refuses it. It is as it was where memory was wanted.
-fn ask(
+fn ask_peer(
     peer: &mut Peer,
     alloc: Global,
     event: Event<'_>,
@@ -45,7 +45,7 @@ fn ask(
 }
 
 /// Room for one reply more.
-fn reserve_one(replies: &mut Vec<Result<Actions, PeerFault>>) -> Result<(), NoMemory>
+fn reserve_reply(replies: &mut Vec<Result<Actions, PeerFault>>) -> Result<(), NoMemory>
     ensures same { replies.new.items ≡ replies.old.items }
     ensures room { OnOk result (vec_len replies.new < vec_capacity replies.new) }
 {
@@ -56,7 +56,7 @@ fn reserve_one(replies: &mut Vec<Result<Actions, PeerFault>>) -> Result<(), NoMe
 }
 
 /// Tells the peer of the event, and appends its reply. Where memory is wanted all is as it was.
-fn tell(
+fn tell_event(
     peer: &mut Peer,
     alloc: Global,
     event: Event<'_>,
@@ -69,21 +69,21 @@ fn tell(
     ensures peer { OnErr result (peer.new ≡ peer.old) }
     ensures replies { OnErr result (replies.new.items ≡ replies.old.items) }
 {
-    reserve_one(replies)?;
-    let reply = ask(peer, alloc, event)?;
+    reserve_reply(replies)?;
+    let reply = ask_peer(peer, alloc, event)?;
     replies.push_reserved(reply);
     Ok(())
 }
 
 /// Tells a peer the events, one after the other, up to the first for which memory is wanted.
-fn tell_each(peer: &mut Peer, alloc: Global, events: &[Event<'_>]) -> Report
+fn tell_events(peer: &mut Peer, alloc: Global, events: &[Event<'_>]) -> Report
     ensures few { length result.replies.items ≤ length events.now }
     ensures replied { Replied peer.old (events_told events.now result.replies.items)
         (reverse result.replies.items) peer.new }
 {
     let mut replies = Vec::new(alloc);
     for event in events {
-        match tell(peer, alloc, *event, &mut replies) {
+        match tell_event(peer, alloc, *event, &mut replies) {
             Ok(()) => {}
             Err(_) => break,
         }
@@ -132,5 +132,5 @@ pub fn run(peer: &mut Peer, alloc: Global, events: &[Event<'_>]) -> Report
     each_open_stays();
     each_count_is_of_ticks();
     every_peer_is_kept(peer);
-    tell_each(peer, alloc, events)
+    tell_events(peer, alloc, events)
 }

@@ -1,6 +1,6 @@
 use Rattle.std.proofs.Common.{◌+◌, length, ap, ◌∙◌}
 use Rattle.dm_history.proofs.Replying.{none_replied, more_replied}
-use Rattle.dm_history.proofs.running.tell_each.Goals as goal
+use Rattle.dm_history.proofs.running.tell_events.Goals as goal
 
 pub loop-event-init : goal.loop-event-init
 loop-event-init c =
@@ -14,6 +14,7 @@ loop-event-preserved c =
     record {
       counted = c.in-Ok.ensures.counted ∙ ap (λ n. n + 1) c.loop-event.invariant.counted;
       replied = more_replied c.args.peer.now c.args.events.now c.loop-event.event-index _ c.loop-event.replies.items
-          c.tell.new.replies.items c.loop-event.peer c.tell.new.peer c.loop-event-test.true c.in-Ok.ensures.told
+          c.tell_event.new.replies.items c.loop-event.peer c.tell_event.new.peer c.loop-event-test.true
+          c.in-Ok.ensures.told
           c.loop-event.invariant.replied;
     }

@@ -2,7 +2,7 @@
 use Rattle.std.proofs.Common.{◌≡◌, length, take, reverse, map}
 use Rattle.dm_peer.specs.Events.{event_told}
 use Rattle.dm_history.specs.Telling.{Replied}
-use Rattle.dm_history.proofs.running.tell_each.Given as goal
+use Rattle.dm_history.proofs.running.tell_events.Given as goal
 
 abbrev pub invariant-loop-event : goal.invariant-loop-event
 invariant-loop-event l = record {
