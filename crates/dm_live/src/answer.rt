@@ -11,7 +11,7 @@ ghost use Rattle.dm_live.specs.Meetings.{meeting_of};
 ghost use Rattle.dm_live.specs.OrderLines.{order_asked};
 
 use crate::answer_lines::{
-    put_event, put_neighbour, put_order_refusal, put_states_behind, put_turn, put_untold,
+    put_answer_states, put_event, put_ignored, put_neighbour, put_order_refusal, put_turn,
 };
 use crate::asked::Asked;
 use crate::form::Form;
@@ -36,8 +36,8 @@ pub fn answer_order(
         × (string_bytes text.new ≡ string_bytes text.old ++ more)) }
 {
     let who = take_asked(alloc, form, node, asked, answer, text)?;
-    let last = tell_behind(alloc, form, node, asked, who, answer, text)?;
-    put_states_behind(text, form, node, asked, last)
+    let last = tell_if_piece(alloc, form, node, asked, who, answer, text)?;
+    put_answer_states(text, form, node, asked, last)
 }
 
 /// Appends what is asked comes to by itself, and answers whom it concerns. A piece is kept.
@@ -76,9 +76,9 @@ fn take_order(
         × (string_bytes text.new ≡ string_bytes text.old ++ own)) }
 {
     match node.order(alloc, order, answer) {
-        Ok(()) => put_taken(text, form, order, answer),
+        Ok(()) => put_order_outcome(text, form, order, answer),
         Err(fault) => {
-            let who = refused_by(order, fault);
+            let who = refusing_neighbour(order, fault);
             put_neighbour(text, form, who)?;
             put_order_refusal(text, fault)?;
             Ok(who)
@@ -87,7 +87,7 @@ fn take_order(
 }
 
 /// Appends what an order comes to that was taken, and answers whom it concerns.
-fn put_taken(
+fn put_order_outcome(
     text: &mut String,
     form: Form,
     order: Order<'_>,
@@ -99,8 +99,8 @@ fn put_taken(
 {
     match answer.told {
         Told::Nothing => {
-            put_untold(text, order)?;
-            Ok(set_back_by(order))
+            put_ignored(text, order)?;
+            Ok(reset_neighbour(order))
         }
         _ => {
             put_event(text, form, answer)?;
@@ -110,7 +110,7 @@ fn put_taken(
 }
 
 /// The neighbour that an order has begin anew, if it is such an order.
-fn set_back_by(order: Order<'_>) -> Option<usize>
+fn reset_neighbour(order: Order<'_>) -> Option<usize>
     ensures { result ≡ whom_asked order.entry None }
 {
     match order {
@@ -120,17 +120,17 @@ fn set_back_by(order: Order<'_>) -> Option<usize>
 }
 
 /// The neighbour that refuses an order with this fault; where nobody has the number that it names, none does.
-fn refused_by(order: Order<'_>, fault: OrderFault) -> Option<usize>
+fn refusing_neighbour(order: Order<'_>, fault: OrderFault) -> Option<usize>
     ensures { result ≡ refuser order.entry fault }
 {
     match fault {
-        OrderFault::Peer(_) => named_by(order),
+        OrderFault::Peer(_) => named_neighbour(order),
         OrderFault::NoNeighbour => None,
     }
 }
 
 /// The number of the neighbour that an order names, if it names one.
-fn named_by(order: Order<'_>) -> Option<usize>
+fn named_neighbour(order: Order<'_>) -> Option<usize>
     ensures { result ≡ (order_asked order.entry).to }
 {
     match order {
@@ -146,7 +146,7 @@ fn named_by(order: Order<'_>) -> Option<usize>
 
 /// Tells what came on the connection of a piece, and appends what that comes to; behind an order nothing. Answers whom
 /// it concerned last, `who` where nobody.
-fn tell_behind(
+fn tell_if_piece(
     alloc: Global,
     form: Form,
     node: &mut Node,
@@ -161,14 +161,14 @@ fn tell_behind(
         × (string_bytes text.new ≡ string_bytes text.old ++ turns_lines form turns)) }
 {
     match asked {
-        Asked::Piece(conn, _) => tell_out(alloc, form, node, conn, who, answer, text),
+        Asked::Piece(conn, _) => tell_all_on_conn(alloc, form, node, conn, who, answer, text),
         Asked::Order(_) => Ok(who),
     }
 }
 
 /// Tells all that came on the connection, and appends what that comes to. Answers whom it concerned last, `who` where
 /// nobody.
-fn tell_out(
+fn tell_all_on_conn(
     alloc: Global,
     form: Form,
     node: &mut Node,
@@ -184,7 +184,7 @@ fn tell_out(
 {
     let mut last = who;
     'turn: for _ in 0..u64::MAX {
-        if !tell_next(alloc, form, node, conn, &mut last, answer, text)? {
+        if !tell_next_on_conn(alloc, form, node, conn, &mut last, answer, text)? {
             return Ok(last);
         }
     }
@@ -194,7 +194,7 @@ fn tell_out(
 
 /// Tells the next message that came on the connection, or a fault, and appends what that comes to; `last` is whom it
 /// concerned, where it concerned anybody. False where there is none.
-fn tell_next(
+fn tell_next_on_conn(
     alloc: Global,
     form: Form,
     node: &mut Node,

@@ -162,7 +162,7 @@ pub(crate) fn put_turn(
 
 /// Appends that an order told no event, where it is one of those that tell one.
 #[tactic(auto, unfolding(crate::specs::Answers::ignored_line))]
-pub(crate) fn put_untold(text: &mut String, order: Order<'_>) -> Result<(), AllocError>
+pub(crate) fn put_ignored(text: &mut String, order: Order<'_>) -> Result<(), AllocError>
     ensures { OnOk result (string_bytes text.new
         ≡ string_bytes text.old ++ ignored_line (order_asked order.entry).order) }
 {
@@ -198,7 +198,11 @@ fn put_peer_state(text: &mut String, index: usize, peer: &Peer) -> Result<(), Al
 
 /// Appends how the neighbour of a place stands, where one is there.
 #[tactic(auto, unfolding(crate::specs::Answers::state_line))]
-fn put_place_state(text: &mut String, index: usize, place: &Option<Peer>) -> Result<(), AllocError>
+fn put_peer_state_if_any(
+    text: &mut String,
+    index: usize,
+    place: &Option<Peer>,
+) -> Result<(), AllocError>
     ensures { OnOk result (string_bytes text.new ≡ string_bytes text.old ++ state_line Form.Several index place.now) }
 {
     match place {
@@ -212,7 +216,7 @@ fn put_all_states(text: &mut String, places: &[Option<Peer>]) -> Result<(), Allo
     ensures { OnOk result (string_bytes text.new ≡ string_bytes text.old ++ states_lines 0 places.now) }
 {
     'place: for index in 0..places.len() {
-        put_place_state(text, index, &places[index])?;
+        put_peer_state_if_any(text, index, &places[index])?;
     }
     Ok(())
 }
@@ -249,7 +253,7 @@ fn put_state_alone(text: &mut String, node: &Node) -> Result<(), AllocError>
 
 /// Appends how each of several stands behind an order that concerned all, or else the one that was concerned last; and
 /// how a peer stands that is alone, behind each order.
-pub(crate) fn put_states_behind(
+pub(crate) fn put_answer_states(
     text: &mut String,
     form: Form,
     node: &Node,

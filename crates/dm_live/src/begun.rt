@@ -27,7 +27,7 @@ pub(crate) enum Begun {
 fn form_of(draft: &Draft) -> Form
     ensures { result ≡ form_told (settings_of draft.now) }
 {
-    if draft.tells_several() {
+    if draft.has_several_peers() {
         Form::Several
     } else {
         Form::Alone
@@ -35,7 +35,7 @@ fn form_of(draft: &Draft) -> Form
 }
 
 /// What the configuration begins; and appends that it does, or why it begins nothing.
-pub(crate) fn begin(
+pub(crate) fn begin_configured(
     alloc: Global,
     draft: &Draft,
     number: u64,

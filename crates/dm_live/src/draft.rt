@@ -73,14 +73,14 @@ impl Draft {
     }
 
     /// The longest message before the capabilities exchange.
-    pub(crate) fn first_max(&self) -> u32
+    pub(crate) fn first_max_len(&self) -> u32
         ensures { result ≡ (settings_of self.now).first_max }
     {
         self.first_max
     }
 
     /// The longest message behind the capabilities exchange.
-    pub(crate) fn most(&self) -> u32
+    pub(crate) fn max_len(&self) -> u32
         ensures { result ≡ (settings_of self.now).most }
     {
         self.most
@@ -100,7 +100,7 @@ impl Draft {
         };
         match read_vendor_application(word) {
             Some(accounting) => self.take_vendor_application(accounting, &mut left),
-            None => self.take_one(word, &mut left),
+            None => self.take_setting(word, &mut left),
         }
     }
 
@@ -128,7 +128,7 @@ impl Draft {
     }
 
     /// Goes on with a name and one word. False where they tell nothing.
-    fn take_one(&mut self, word: &[u8], left: &mut Words<'_>) -> Result<bool, AllocError>
+    fn take_setting(&mut self, word: &[u8], left: &mut Words<'_>) -> Result<bool, AllocError>
         ensures told { IfOk result (λ good. good ≡ true
             → TellsOne (word.now ∷ words left.old) (settings_of self.old) (settings_of self.new)) }
         ensures bad { IfOk result (λ good. good ≡ false
@@ -189,7 +189,7 @@ impl Draft {
     }
 
     /// Whether there are several peers.
-    pub(crate) fn tells_several(&self) -> bool
+    pub(crate) fn has_several_peers(&self) -> bool
         ensures { result ≡ is_several (settings_of self.now) }
     {
         self.peers.len() > 1
@@ -205,8 +205,8 @@ impl Draft {
         ensures fault { IfOk result (λ made. IfErr made (λ name. go_fault (settings_of self.now) ≡ Some name.now)) }
     {
         match self.node(alloc)? {
-            Ok(node) => match self.extended(alloc, node) {
-                Ok(node) => self.config_of(alloc, node),
+            Ok(node) => match self.extended_node(alloc, node) {
+                Ok(node) => self.config_of_node(alloc, node),
                 Err(ExtrasFault::TooLong) => Ok(Err("TooLong")),
                 Err(ExtrasFault::NoMemory) => Err(AllocError),
             },
@@ -215,7 +215,7 @@ impl Draft {
     }
 
     /// The configuration of a node for the first peer, or the name of why there is none.
-    fn config_of(
+    fn config_of_node(
         &self,
         alloc: Global,
         node: Node,
@@ -250,7 +250,7 @@ impl Draft {
     }
 
     /// Whether the lines say more of the node than it must say.
-    fn says_more(&self) -> bool
+    fn says_extras(&self) -> bool
         ensures { result ≡ has_extras (settings_of self.now) }
     {
         self.applications.len() != 0
@@ -259,8 +259,8 @@ impl Draft {
             || self.state_id.is_some()
     }
 
-    /// The node, which says what the lines say beyond what it must, if they do.
-    fn extended(&self, alloc: Global, node: Node) -> Result<Node, ExtrasFault>
+    /// The node with the extras that the lines say, if they say any.
+    fn extended_node(&self, alloc: Global, node: Node) -> Result<Node, ExtrasFault>
         requires { IsOwnOf (settings_of self.now) node }
         ensures made { IfOk result (λ made. IsNodeOf (settings_of self.now) made) }
         ensures good { OnOk result (are_extras_long (settings_of self.now).applications (settings_of self.now).vendors
@@ -268,7 +268,7 @@ impl Draft {
         ensures fault { IfErr result (λ fault. fault ≡ extras_faults.TooLong
             → are_extras_long (settings_of self.now).applications (settings_of self.now).vendors ≡ true) }
     {
-        if !self.says_more() {
+        if !self.says_extras() {
             return Ok(node);
         }
         match self.extras(alloc) {

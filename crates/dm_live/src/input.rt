@@ -33,7 +33,7 @@ fn take_piece<R: BufRead>(reader: &mut R, line: &mut Vec<u8>) -> Result<bool, Li
 {
     let octets = match reader.fill_buf() {
         Ok(octets) => octets,
-        Err(error) => return none_read(error),
+        Err(error) => return retry_if_interrupted(error),
     };
     let (end, done) = piece_end(octets);
     line.extend_from_slice(&octets[..end])?;
@@ -41,8 +41,8 @@ fn take_piece<R: BufRead>(reader: &mut R, line: &mut Vec<u8>) -> Result<bool, Li
     Ok(done)
 }
 
-/// An interrupted read is made again.
-fn none_read(error: Error) -> Result<bool, LiveFault>
+/// Answers false where a read was interrupted, which is made again, and else why it failed.
+fn retry_if_interrupted(error: Error) -> Result<bool, LiveFault>
     ensures again { IfOk result (λ done. done ≡ false) }
     ensures fault { IfErr result (λ f. (f ≡ LiveFault.Read) ⊎ (f ≡ LiveFault.Memory)) }
 {
@@ -77,12 +77,12 @@ fn strip_line_end(line: &mut Vec<u8>) -> bool
     if line.is_empty() {
         return false;
     }
-    take_end_off(line);
+    remove_line_end(line);
     true
 }
 
 /// Takes the line's LF off, and a CR right before that.
-fn take_end_off(line: &mut Vec<u8>)
+fn remove_line_end(line: &mut Vec<u8>)
     ensures { line.new.items ≡ without_end line.old.items }
 {
     if let Some(b'\n') = line.last() {

@@ -10,7 +10,7 @@ ghost use Rattle.dm_live.specs.Stages.{stage_of};
 
 use crate::answer::answer_order;
 use crate::answer_lines::put_fault_answer;
-use crate::begun::{Begun, begin};
+use crate::begun::{Begun, begin_configured};
 use crate::draft::Draft;
 use crate::form::Form;
 use crate::order_line::read_order;
@@ -57,7 +57,7 @@ impl Live {
             return answer_running(alloc, *form, node, &mut self.answer, number, line, text);
         }
         if is_go(line) {
-            let begun = begin(alloc, &self.draft, number, text)?;
+            let begun = begin_configured(alloc, &self.draft, number, text)?;
             self.set_begun(begun);
             return Ok(());
         }

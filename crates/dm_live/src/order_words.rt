@@ -24,7 +24,7 @@ fn next_conn(left: &mut Words<'_>) -> Option<Conn>
     Some(Conn(number))
 }
 
-/// A connection alone.
+/// The connection that the next word tells, where no other follows.
 pub(crate) fn conn_alone(left: &mut Words<'_>) -> Option<Conn>
     ensures told { IfSome result (λ c. TellsConn c (words left.old)) }
     ensures none { IfNone result ((n : ℕ) (number : List ℕ) → words left.old ≡ number ∷ []
@@ -61,7 +61,7 @@ fn next_neighbour(form: Form, left: &mut Words<'_>) -> Option<usize>
     }
 }
 
-/// A neighbour alone.
+/// The neighbour of the order, where no other word follows.
 pub(crate) fn neighbour_and_nothing(form: Form, left: &mut Words<'_>) -> Option<usize>
     ensures told { IfSome result (λ i. NamesNeighbour form i (words left.old) []) }
     ensures none { IfNone result ((n : ℕ) → NamesNeighbour form n (words left.old) [] → ⊥) }

@@ -85,7 +85,7 @@ pub(crate) fn node_with_peers(
         (settings_of draft.now).peers ≡ Some name.now)) }
 {
     let own = template.node().clone()?;
-    let mut node = Node::new(alloc, own, draft.first_max(), draft.most());
+    let mut node = Node::new(alloc, own, draft.first_max_len(), draft.max_len());
     match add_peers(alloc, draft, template, &mut node) {
         Ok(Ok(())) => Ok(Ok(node)),
         Ok(Err(name)) => {

@@ -42,18 +42,18 @@ pub fn run_program<R: Read + Drop, W: Write, E: Write>(
 {
     match words {
         Ok(words) => {
-            let is_asked = has_none(words.as_slice());
+            let is_asked = has_no_words(words.as_slice());
             drop(words);
-            let outcome = run_asked(alloc, is_asked, reader, writer);
-            finish(outcome, errors)
+            let outcome = run_if_asked(alloc, is_asked, reader, writer);
+            end_with_outcome(outcome, errors)
         }
-        Err(WordsFault::NotText) => finish(None, errors),
-        Err(WordsFault::NoMemory) => finish(Some(Err(LiveFault::Memory)), errors),
+        Err(WordsFault::NotText) => end_with_outcome(None, errors),
+        Err(WordsFault::NoMemory) => end_with_outcome(Some(Err(LiveFault::Memory)), errors),
     }
 }
 
 /// Whether there are no words.
-fn has_none(words: &[String]) -> bool
+fn has_no_words(words: &[String]) -> bool
     ensures none { result ≡ true → words.now ≡ [] }
     ensures some { result ≡ false → words.now ≢ [] }
 {
@@ -64,7 +64,7 @@ fn has_none(words: &[String]) -> bool
 }
 
 /// Answers the lines that the reader gives, where that is asked for.
-fn run_asked<R: Read + Drop, W: Write>(
+fn run_if_asked<R: Read + Drop, W: Write>(
     alloc: Global,
     is_asked: bool,
     reader: R,
@@ -79,11 +79,15 @@ fn run_asked<R: Read + Drop, W: Write>(
     if !is_asked {
         return None;
     }
-    Some(run(alloc, reader, writer))
+    Some(serve_reader(alloc, reader, writer))
 }
 
 /// Answers the lines that the reader gives.
-fn run<R: Read + Drop, W: Write>(alloc: Global, reader: R, writer: &mut W) -> Result<(), LiveFault>
+fn serve_reader<R: Read + Drop, W: Write>(
+    alloc: Global,
+    reader: R,
+    writer: &mut W,
+) -> Result<(), LiveFault>
     ensures { IfSome (R.remaining reader) (λ octets.
         Ran result octets (W.contents writer.old) (W.contents writer.new)) }
 {
@@ -94,7 +98,7 @@ fn run<R: Read + Drop, W: Write>(alloc: Global, reader: R, writer: &mut W) -> Re
 }
 
 /// The status for an outcome, once its words stand on standard error.
-fn finish<E: Write>(outcome: Option<Result<(), LiveFault>>, errors: &mut E) -> Ended
+fn end_with_outcome<E: Write>(outcome: Option<Result<(), LiveFault>>, errors: &mut E) -> Ended
     ensures outcome { result.outcome ≡ outcome }
     ensures status { result.status ≡ (ending_of outcome).0 }
     ensures told { result.told ≡ true →

@@ -76,7 +76,7 @@ fn put_number_lines(text: &mut String, name: &str, numbers: &[u32]) -> Result<()
     Ok(())
 }
 
-/// Appends what the sender says in names.
+/// Appends the sender's host, realm and product.
 #[tactic(auto, unfolding(crate::specs::SenderLines::name_lines))]
 fn put_names(text: &mut String, sender: SenderRef<'_>) -> Result<(), AllocError>
     ensures { (l : List Avp) → HasAvps sender.entry l
@@ -123,7 +123,7 @@ fn put_vendors(alloc: Global, text: &mut String, sender: SenderRef<'_>) -> Resul
 
 /// Appends the vendor and the firmware that the sender says.
 #[tactic(auto, unfolding(crate::specs::SenderLines::version_lines))]
-fn put_version(text: &mut String, sender: SenderRef<'_>) -> Result<(), AllocError>
+fn put_vendor_and_firmware(text: &mut String, sender: SenderRef<'_>) -> Result<(), AllocError>
     ensures { (l : List Avp) → HasAvps sender.entry l
         → OnOk result (string_bytes text.new ≡ string_bytes text.old ++ version_lines l) }
 {
@@ -131,7 +131,7 @@ fn put_version(text: &mut String, sender: SenderRef<'_>) -> Result<(), AllocErro
     put_number_line_if_any(text, "firmware", sender.firmware())
 }
 
-/// Appends what the sender can do, and its state.
+/// Appends the applications and the vendors that the sender supports, and its Origin-State-Id.
 #[tactic(auto, unfolding(crate::specs::SenderLines::ability_lines))]
 fn put_ability(alloc: Global, text: &mut String, sender: SenderRef<'_>) -> Result<(), AllocError>
     ensures { (l : List Avp) → HasAvps sender.entry l
@@ -144,14 +144,18 @@ fn put_ability(alloc: Global, text: &mut String, sender: SenderRef<'_>) -> Resul
 
 /// Appends what is said of the sender, or that there is nobody.
 #[tactic(auto, unfolding(crate::specs::SenderLines::exchange_lines))]
-fn put_exchange(alloc: Global, text: &mut String, known: &Acquaintance) -> Result<(), AllocError>
+fn put_sender_or_nobody(
+    alloc: Global,
+    text: &mut String,
+    known: &Acquaintance,
+) -> Result<(), AllocError>
     ensures { OnOk result (string_bytes text.new
         ≡ string_bytes text.old ++ exchange_lines (exchange_in known.now.octets)) }
 {
     match known.sender() {
         Some(sender) => {
             put_names(text, sender)?;
-            put_version(text, sender)?;
+            put_vendor_and_firmware(text, sender)?;
             put_ability(alloc, text, sender)
         }
         None => text.push_str("nobody\n"),
@@ -174,7 +178,7 @@ fn put_anew(text: &mut String, is_anew: bool) -> Result<(), AllocError>
 fn put_sender(alloc: Global, text: &mut String, known: &Acquaintance) -> Result<(), AllocError>
     ensures { OnOk result (string_bytes text.new ≡ string_bytes text.old ++ sender_lines known.now) }
 {
-    put_exchange(alloc, text, known)?;
+    put_sender_or_nobody(alloc, text, known)?;
     put_number_line_if_any(text, "origin-state-before", known.state_before())?;
     put_anew(text, known.is_anew())
 }

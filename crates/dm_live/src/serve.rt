@@ -26,13 +26,13 @@ pub fn serve_lines<R: BufRead, W: Write>(
         StopsShort fault octets (W.contents writer.old) (W.contents writer.new))) }
 {
     let mut live = Live::new(alloc);
-    let done = serve_all(alloc, &mut live, reader, writer);
+    let done = answer_all_lines(alloc, &mut live, reader, writer);
     drop(live);
     done
 }
 
 /// Answers each line.
-fn serve_all<R: BufRead, W: Write>(
+fn answer_all_lines<R: BufRead, W: Write>(
     alloc: Global,
     live: &mut Live,
     reader: &mut R,

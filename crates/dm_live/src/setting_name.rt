@@ -26,8 +26,8 @@ pub enum SettingName {
     Max,
 }
 
-/// What a word tells of the node itself.
-fn read_own(word: &[u8]) -> Option<SettingName>
+/// The setting of the node itself that a word names.
+fn read_node_setting(word: &[u8]) -> Option<SettingName>
     ensures told { IfSome result (λ name. word.now ≡ setting_word name) }
     ensures none { IfNone result (IsNoneOf word.now (Host ∷ Realm ∷ Address ∷ Vendor ∷ Product ∷ [])) }
 {
@@ -41,8 +41,8 @@ fn read_own(word: &[u8]) -> Option<SettingName>
     }
 }
 
-/// What a word tells of what the node can do, and of its state.
-fn read_said(word: &[u8]) -> Option<SettingName>
+/// The setting of what the node can do, or of its state, that a word names.
+fn read_ability_setting(word: &[u8]) -> Option<SettingName>
     ensures told { IfSome result (λ name. word.now ≡ setting_word name) }
     ensures none { IfNone result (IsNoneOf word.now (Auth ∷ Acct ∷ Supports ∷ Firmware ∷ State ∷ [])) }
 {
@@ -56,8 +56,8 @@ fn read_said(word: &[u8]) -> Option<SettingName>
     }
 }
 
-/// What a word tells of peers and their messages.
-fn read_of_peers(word: &[u8]) -> Option<SettingName>
+/// The setting of peers and their messages that a word names.
+fn read_peer_setting(word: &[u8]) -> Option<SettingName>
     ensures told { IfSome result (λ name. word.now ≡ setting_word name) }
     ensures none { IfNone result (IsNoneOf word.now (Peer ∷ Compare ∷ First ∷ Early ∷ Max ∷ [])) }
 {
@@ -71,12 +71,14 @@ fn read_of_peers(word: &[u8]) -> Option<SettingName>
     }
 }
 
-/// What is called by this word.
+/// The setting that a word names.
 pub(crate) fn read_setting_name(word: &[u8]) -> Option<SettingName>
     ensures told { IfSome result (λ name. word.now ≡ setting_word name) }
     ensures none { IfNone result ((name : SettingName) → word.now ≡ setting_word name → ⊥) }
 {
-    read_own(word).or(read_said(word)).or(read_of_peers(word))
+    read_node_setting(word)
+        .or(read_ability_setting(word))
+        .or(read_peer_setting(word))
 }
 
 /// Whether the word tells that an application of a vendor follows, and whether that is one of accounting.

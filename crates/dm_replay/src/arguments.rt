@@ -32,7 +32,7 @@ pub fn next_side(left: &mut Words<'_>) -> Option<Side>
     read_side(left.next()?)
 }
 
-/// A side alone.
+/// The side that the next word names, where no other follows.
 pub fn side_alone(left: &mut Words<'_>) -> Option<Side>
     ensures told { IfSome result (λ side. words left.old ≡ side_name side ∷ []) }
     ensures none { IfNone result ((side : Side) → words left.old ≡ side_name side ∷ [] → ⊥) }
@@ -56,7 +56,7 @@ pub fn side_and_cause(left: &mut Words<'_>) -> Option<(Side, Cause)>
     Some((side, cause))
 }
 
-/// A link alone.
+/// The link that the next word names, where no other follows.
 pub fn link_alone(left: &mut Words<'_>) -> Option<u64>
     ensures told { IfSome result (λ n. (number : List ℕ) × (words left.old ≡ number ∷ []) × TellsLongNumber n number) }
     ensures none { IfNone result ((n : ℕ) (number : List ℕ) → words left.old ≡ number ∷ []

@@ -7,4 +7,4 @@ returns c =
     let own = c.in_ok-who.ensures in
     let heard = c.in_ok-last.ensures in
     answered _ _ _ _ _ _ _ _ _ _ _ _ _ _ _ own.1 heard.1 heard.2 refl own.2 heard.3
-    c.put_states_behind.ensures
+    c.put_answer_states.ensures

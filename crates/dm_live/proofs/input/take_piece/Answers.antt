@@ -5,8 +5,8 @@ use Rattle.dm_live.proofs.input.take_piece.Goals as goal
 
 pub returns-in-Err-clause-taken : goal.returns-in-Err-clause-taken
 returns-in-Err-clause-taken g c =
-    took_none_anyway c.none_read.result _ _ c.args.line.now.items c.fill_buf.follows.holds-at-none.0
-    c.none_read.ensures.again
+    took_none_anyway c.retry_if_interrupted.result _ _ c.args.line.now.items c.fill_buf.follows.holds-at-none.0
+    c.retry_if_interrupted.ensures.again
 
 pub returns-clause-taken : goal.returns-clause-taken
 returns-clause-taken g c =

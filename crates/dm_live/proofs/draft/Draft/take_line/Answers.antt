@@ -15,5 +15,6 @@ returns-in-Some-read_vendor_application-clause-bad c =
 
 pub returns-in-None-clause-bad : goal.returns-in-None-clause-bad
 returns-in-None-clause-bad c =
-    no_one c.take_one.result c.args.line.now c.in-Some.word.now (words c.next.new.self) (settings_of c.args.self.now)
-    (sym (ap words c.new-left.ensures) ∙ c.in-Some.ensures.steps) c.in-None.ensures.none c.take_one.ensures.bad
+    no_one c.take_setting.result c.args.line.now c.in-Some.word.now (words c.next.new.self)
+    (settings_of c.args.self.now)
+    (sym (ap words c.new-left.ensures) ∙ c.in-Some.ensures.steps) c.in-None.ensures.none c.take_setting.ensures.bad

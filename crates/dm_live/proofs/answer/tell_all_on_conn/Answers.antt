@@ -1,11 +1,11 @@
 use Rattle.std.proofs.Common.{[], ◌∷◌, ◌++◌}
 use Rattle.dm_live.specs.Answers.{policy_of}
 use Rattle.dm_live.proofs.Turns.{along_push, text_push, whom_after}
-use Rattle.dm_live.proofs.answer.tell_out.Goals as goal
+use Rattle.dm_live.proofs.answer.tell_all_on_conn.Goals as goal
 
 pub turn-preserved : goal.turn-preserved
 turn-preserved c =
-    let told = c.in_ok-tell_next.ensures.told c.if-not-branch.false in
+    let told = c.in_ok-tell_next_on_conn.ensures.told c.if-not-branch.false in
     let so = c.turn.invariant in (
       so.0 ++ told.0 ∷ [],
       along_push (policy_of c.args.form) c.args.conn _ _ _ so.0 told.0 so.1 told.1,

@@ -3,7 +3,7 @@ use Rattle.std.specs.String.{string_bytes}
 use Rattle.dm_node.specs.NodeStates.{NodeTurn}
 use Rattle.dm_live.specs.Answers.{turns_lines, whom_last, policy_of, MeetsAlong}
 use Rattle.dm_live.specs.Meetings.{meeting_of}
-use Rattle.dm_live.proofs.answer.tell_out.Given as goal
+use Rattle.dm_live.proofs.answer.tell_all_on_conn.Given as goal
 
 -- so far these turns are told
 abbrev pub invariant-turn : goal.invariant-turn

@@ -1,7 +1,7 @@
 use Rattle.std.proofs.Common.{inr, inl, refl}
 use Rattle.dm_live.specs.declared.fault.LiveFault.TheVariants.{Memory, Write}
 use Rattle.dm_live.proofs.Serving.{handed_on, stopped, line_answered, line_unwritten, lines_answered}
-use Rattle.dm_live.proofs.serve.serve_all.Goals as goal
+use Rattle.dm_live.proofs.serve.answer_all_lines.Goals as goal
 
 pub returns-in_err-next_line-clause-stopped : goal.returns-in_err-next_line-clause-stopped
 returns-in_err-next_line-clause-stopped g c =

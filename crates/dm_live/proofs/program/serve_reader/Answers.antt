@@ -1,6 +1,6 @@
 use Rattle.std.specs.Io.Buffered.{reader_buffer, reader_capacity, reader_inner}
 use Rattle.dm_live.proofs.Running.{ran_behind, unbegun}
-use Rattle.dm_live.proofs.program.run.Goals as goal
+use Rattle.dm_live.proofs.program.serve_reader.Goals as goal
 
 pub returns-in-Ok : goal.returns-in-Ok
 returns-in-Ok g c =

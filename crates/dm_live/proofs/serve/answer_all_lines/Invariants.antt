@@ -1,6 +1,6 @@
 use Rattle.dm_live.specs.Stages.{stage_of}
 use Rattle.dm_live.proofs.Serving.{ServedOf}
-use Rattle.dm_live.proofs.serve.serve_all.Given as goal
+use Rattle.dm_live.proofs.serve.answer_all_lines.Given as goal
 
 -- the lines so far are answered
 abbrev pub invariant-line : goal.invariant-line

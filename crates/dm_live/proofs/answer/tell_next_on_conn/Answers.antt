@@ -5,7 +5,7 @@ use Rattle.dm_live.specs.Answers.{policy_of, MeetsNext}
 use Rattle.dm_live.specs.Meetings.{meeting_of}
 use Rattle.dm_live.proofs.Options.{some-holds, none-holds}
 use Rattle.dm_live.proofs.Turns.{done_so}
-use Rattle.dm_live.proofs.answer.tell_next.Goals as goal
+use Rattle.dm_live.proofs.answer.tell_next_on_conn.Goals as goal
 
 pub returns-in-Ok-clause-told : goal.returns-in-Ok-clause-told
 returns-in-Ok-clause-told c =
