@@ -32,7 +32,7 @@ fn is_whole(run: ChunkRun) -> bool
     run.begun && run.ended
 }
 
-/// With the fragment before it, where its own first isn't the beginning.
+/// The run with the fragment before it, where its own first isn't the beginning; `None` where none there goes with it.
 fn widened_left(
     tsns: &VecDeque<TsnState>,
     at: usize,
@@ -63,7 +63,7 @@ fn widened_left(
     }
 }
 
-/// With the fragment behind it, where its own last isn't the end.
+/// The run with the fragment behind it, where its own last isn't the end; `None` where none there goes with it.
 fn widened_right(
     tsns: &VecDeque<TsnState>,
     at: usize,
@@ -93,7 +93,7 @@ fn widened_right(
     }
 }
 
-/// With the fragments before and behind it that are wanted.
+/// The run with the fragments before and behind it that are wanted; `None` where one is missing or goes with another.
 fn widened(tsns: &VecDeque<TsnState>, at: usize, own: ChunkMarks, run: ChunkRun) -> Option<ChunkRun>
     requires around { IsRunAround tsns.now.items at own run }
     requires near { at < 65536 }

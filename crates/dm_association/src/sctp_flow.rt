@@ -51,13 +51,13 @@ impl Model for SctpFlow {
 }
 
 /// So many octets more.
-fn more_octets(passed: u64, octets: usize) -> u64
+fn octet_sum(passed: u64, octets: usize) -> u64
     ensures { result ≡ more_passed passed octets }
 {
     passed.saturating_add(octets as u64)
 }
 
-fn is_read(protocol: u32) -> bool
+fn may_be_diameter(protocol: u32) -> bool
     ensures { result ≡ is_clear_text protocol }
 {
     protocol == DIAMETER || protocol == NO_IDENTIFIER
@@ -74,7 +74,7 @@ fn marks_of(chunk: DataChunk<'_>) -> ChunkMarks
 }
 
 /// Whether an association that is come upon begins with this chunk.
-fn may_begin(chunk: DataChunk<'_>) -> bool
+fn may_begin_association(chunk: DataChunk<'_>) -> bool
     ensures { result ≡ may_begin_with (data_seen chunk.entry) }
 {
     chunk.beginning && chunk.user_data.len() <= MOST_WAITING
@@ -134,7 +134,7 @@ impl SctpFlow {
     pub fn end(&mut self)
         ensures { self.new ≡ association_left self.old }
     {
-        self.passed = more_octets(self.passed, waiting_in(&self.window));
+        self.passed = octet_sum(self.passed, waiting_in(&self.window));
         self.window = None;
     }
 
@@ -162,7 +162,7 @@ impl SctpFlow {
         match self.place_of(chunk) {
             ChunkPlace::Wanted(at) => self.take_wanted(at, chunk),
             ChunkPlace::Repeated => Ok(None),
-            ChunkPlace::Astray => self.begin_with(chunk),
+            ChunkPlace::Astray => self.begin_association_or_pass(chunk),
         }
     }
 
@@ -171,19 +171,19 @@ impl SctpFlow {
         ensures { result ≡ place_in_flow self.now.window (data_seen chunk.entry) }
     {
         match &self.window {
-            Some(window) => window.place(chunk.tsn, chunk.user_data.len()),
+            Some(window) => window.place_of_chunk(chunk.tsn, chunk.user_data.len()),
             None => ChunkPlace::Astray,
         }
     }
 
     /// Counts a chunk that isn't read.
-    fn count_chunk(&mut self, chunk: DataChunk<'_>)
+    fn count_unread_chunk(&mut self, chunk: DataChunk<'_>)
         ensures { self.new ≡ without_chunk (data_seen chunk.entry) self.old }
     {
         if chunk.payload_protocol == DIAMETER_OVER_DTLS {
-            self.secured = more_octets(self.secured, chunk.user_data.len());
+            self.secured = octet_sum(self.secured, chunk.user_data.len());
         } else {
-            self.passed = more_octets(self.passed, chunk.user_data.len());
+            self.passed = octet_sum(self.passed, chunk.user_data.len());
         }
     }
 
@@ -203,16 +203,19 @@ impl SctpFlow {
         let Some(window) = &mut self.window else {
             unreachable!()
         };
-        if is_read(chunk.payload_protocol) {
-            return window.take(self.alloc, at, marks_of(chunk), chunk.user_data);
+        if may_be_diameter(chunk.payload_protocol) {
+            return window.take_chunk_at(self.alloc, at, marks_of(chunk), chunk.user_data);
         }
-        window.pass(at)?;
-        self.count_chunk(chunk);
+        window.finish_tsn(at)?;
+        self.count_unread_chunk(chunk);
         Ok(None)
     }
 
     /// Leaves the association, and begins one with the chunk where that begins a message; else it is passed over.
-    fn begin_with(&mut self, chunk: DataChunk<'_>) -> Result<Option<Vec<u8>>, AllocError>
+    fn begin_association_or_pass(
+        &mut self,
+        chunk: DataChunk<'_>,
+    ) -> Result<Option<Vec<u8>>, AllocError>
         ensures message { IfOk result (λ found. IfSome found
             (λ message. BeginsWithChunk self.old (data_seen chunk.entry) (Some message.items) self.new)) }
         ensures none { IfOk result (λ found. IfNone found
@@ -220,9 +223,9 @@ impl SctpFlow {
         ensures left { OnErr result ((may_begin_with (data_seen chunk.entry) ≡ true)
             × (self.new ≡ begun_at_tsn self.old (data_seen chunk.entry).tsn)) }
     {
-        if !may_begin(chunk) {
+        if !may_begin_association(chunk) {
             self.end();
-            self.count_chunk(chunk);
+            self.count_unread_chunk(chunk);
             return Ok(None);
         }
         self.begin(chunk.tsn);

@@ -9,7 +9,9 @@ use crate::fragment::Fragment;
 use crate::marks::ChunkMarks;
 use crate::message_around::{MessageExtent, message_around};
 use crate::tsn_state::TsnState;
-use crate::tsns::{finish_all, grow_tsns, is_missing_at, message_of, pass_done, put_fragment};
+use crate::tsns::{
+    completed_message, drop_done_tsns, grow_tsns, is_missing_at, mark_extent_done, put_fragment,
+};
 use std::alloc::{AllocError, Global};
 use std::collections::VecDeque;
 use std::marker::Model;
@@ -64,7 +66,7 @@ impl TsnWindow {
     }
 
     /// Where a chunk of so many octets belongs among the TSNs from the first on.
-    fn placed_within(&self, at: usize, size: usize) -> ChunkPlace
+    fn place_in_window(&self, at: usize, size: usize) -> ChunkPlace
         ensures { result ≡ place_within self.now at size }
     {
         if !is_missing_at(&self.tsns, at) {
@@ -76,8 +78,8 @@ impl TsnWindow {
         ChunkPlace::Wanted(at)
     }
 
-    /// Where one belongs that isn't among those.
-    fn placed_before(&self, tsn: u32) -> ChunkPlace
+    /// Where a chunk belongs whose TSN isn't among those from the first on.
+    fn place_outside_window(&self, tsn: u32) -> ChunkPlace
         ensures { result ≡ place_before self.now.next tsn }
     {
         if self.next.wrapping_sub(tsn) as usize <= SPAN {
@@ -88,51 +90,51 @@ impl TsnWindow {
     }
 
     /// How far behind the first TSN a chunk may be.
-    fn most_ahead(&self) -> usize
+    fn most_tsns_ahead(&self) -> usize
         ensures { result ≡ reach self.now.tsns }
     {
         SPAN.min(self.tsns.len() + GAP)
     }
 
     /// Where a chunk with this TSN and so many octets belongs.
-    pub(crate) fn place(&self, tsn: u32, size: usize) -> ChunkPlace
+    pub(crate) fn place_of_chunk(&self, tsn: u32, size: usize) -> ChunkPlace
         ensures { result ≡ chunk_place self.now tsn size }
     {
         let at = tsn.wrapping_sub(self.next) as usize;
-        if at < self.most_ahead() {
-            self.placed_within(at, size)
+        if at < self.most_tsns_ahead() {
+            self.place_in_window(at, size)
         } else {
-            self.placed_before(tsn)
+            self.place_outside_window(tsn)
         }
     }
 
     /// So many TSNs from the first on are done.
-    fn finish(&mut self, extent: MessageExtent) -> Result<(), AllocError>
+    fn finish_extent(&mut self, extent: MessageExtent) -> Result<(), AllocError>
         requires { extent.first + extent.count ≤ 65536 }
         ensures finished { OnOk result (FinishesTsns self.old extent.first extent.count self.new) }
         ensures err { OnErr result (self.new ≡ self.old) }
     {
         grow_tsns(&mut self.tsns, extent.first + extent.count)?;
-        let freed = finish_all(&mut self.tsns, extent);
+        let freed = mark_extent_done(&mut self.tsns, extent);
         self.waiting -= freed;
-        self.next = pass_done(&mut self.tsns, self.next);
+        self.next = drop_done_tsns(&mut self.tsns, self.next);
         Ok(())
     }
 
     /// The TSN at a place is done, and nothing of it is kept.
-    pub(crate) fn pass(&mut self, at: usize) -> Result<(), AllocError>
+    pub(crate) fn finish_tsn(&mut self, at: usize) -> Result<(), AllocError>
         requires { at < 65536 }
         ensures passed { OnOk result (FinishesTsns self.old at 1 self.new) }
         ensures err { OnErr result (self.new ≡ self.old) }
     {
-        self.finish(MessageExtent {
+        self.finish_extent(MessageExtent {
             first: at,
             count: 1,
         })
     }
 
     /// Keeps a fragment at a place.
-    fn hold(
+    fn hold_fragment(
         &mut self,
         alloc: Global,
         at: usize,
@@ -152,7 +154,7 @@ impl TsnWindow {
     }
 
     /// Takes a chunk at a place. A user message that is whole with it is handed out; else it waits.
-    pub(crate) fn take(
+    pub(crate) fn take_chunk_at(
         &mut self,
         alloc: Global,
         at: usize,
@@ -168,12 +170,12 @@ impl TsnWindow {
     {
         match message_around(&self.tsns, at, own) {
             Some(extent) => {
-                let message = message_of(alloc, &self.tsns, at, octets, extent)?;
-                self.finish(extent)?;
+                let message = completed_message(alloc, &self.tsns, at, octets, extent)?;
+                self.finish_extent(extent)?;
                 Ok(Some(message))
             }
             None => {
-                self.hold(alloc, at, own, octets)?;
+                self.hold_fragment(alloc, at, own, octets)?;
                 Ok(None)
             }
         }

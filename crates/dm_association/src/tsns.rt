@@ -44,7 +44,7 @@ fn octets_at(tsns: &VecDeque<TsnState>, at: usize) -> &[u8]
 }
 
 /// Appends the octets that wait at a place, or those of the chunk that belongs there.
-fn put_octets(
+fn push_chunk_octets(
     message: &mut Vec<u8>,
     tsns: &VecDeque<TsnState>,
     place: usize,
@@ -61,8 +61,8 @@ fn put_octets(
     }
 }
 
-/// The user message that these octets complete at a place.
-pub(crate) fn message_of(
+/// The user message at this extent, which is complete with these octets at a place.
+pub(crate) fn completed_message(
     alloc: Global,
     tsns: &VecDeque<TsnState>,
     place: usize,
@@ -75,7 +75,7 @@ pub(crate) fn message_of(
 {
     let mut message = Vec::new(alloc);
     'chunks: for index in 0..extent.count {
-        put_octets(&mut message, tsns, place, octets, extent.first + index)?;
+        push_chunk_octets(&mut message, tsns, place, octets, extent.first + index)?;
     }
     Ok(message)
 }
@@ -103,7 +103,7 @@ pub(crate) fn put_fragment(tsns: &mut VecDeque<TsnState>, at: usize, fragment: F
 }
 
 /// The TSN at a place is done. It answers how many octets waited there.
-fn finish_one(tsns: &mut VecDeque<TsnState>, at: usize) -> usize
+fn mark_done(tsns: &mut VecDeque<TsnState>, at: usize) -> usize
     requires { at < length tsns.old.items }
     ensures done { tsns.new.items ≡ slice_set tsns.old.items at TsnState.Done }
     ensures freed { result ≡ length (slot_octets (tsn_at tsns.old.items at)) }
@@ -114,7 +114,7 @@ fn finish_one(tsns: &mut VecDeque<TsnState>, at: usize) -> usize
 }
 
 /// So many TSNs from the first on are done. It answers how many octets waited there.
-pub(crate) fn finish_all(tsns: &mut VecDeque<TsnState>, extent: MessageExtent) -> usize
+pub(crate) fn mark_extent_done(tsns: &mut VecDeque<TsnState>, extent: MessageExtent) -> usize
     requires there { extent.first + extent.count ≤ length tsns.old.items }
     requires most { waiting_octets tsns.old.items ≤ 1048576 }
     ensures done { AreDone tsns.old.items extent.first extent.count tsns.new.items }
@@ -122,7 +122,7 @@ pub(crate) fn finish_all(tsns: &mut VecDeque<TsnState>, extent: MessageExtent) -
 {
     let mut freed = 0;
     'chunks: for index in 0..extent.count {
-        freed += finish_one(tsns, extent.first + index);
+        freed += mark_done(tsns, extent.first + index);
     }
     freed
 }
@@ -137,7 +137,7 @@ fn is_front_done(tsns: &VecDeque<TsnState>) -> bool
 }
 
 /// Those in front that are done are no more kept. It answers the first TSN behind them.
-pub(crate) fn pass_done(tsns: &mut VecDeque<TsnState>, from: u32) -> u32
+pub(crate) fn drop_done_tsns(tsns: &mut VecDeque<TsnState>, from: u32) -> u32
     ensures passes { PassesDone (record { next = from; tsns = tsns.old.items })
         (record { next = result; tsns = tsns.new.items }) }
     ensures waiting { waiting_octets tsns.new.items ≡ waiting_octets tsns.old.items }

@@ -2,7 +2,7 @@
 use Rattle.std.proofs.Common.{◌≡◌}
 use Rattle.dm_association.specs.Fragments.{user_message}
 use Rattle.dm_association.specs.TsnWindows.{octets_with}
-use Rattle.dm_association.proofs.tsns.message_of.Given as goal
+use Rattle.dm_association.proofs.tsns.completed_message.Given as goal
 
 abbrev pub invariant-chunks : goal.invariant-chunks
 invariant-chunks l =

@@ -1,7 +1,7 @@
 -- So far those in front went that are done.
 use Rattle.std.proofs.Common.{◌≤◌, length}
 use Rattle.dm_association.specs.TsnWindows.{PassesFront}
-use Rattle.dm_association.proofs.tsns.pass_done.Given as goal
+use Rattle.dm_association.proofs.tsns.drop_done_tsns.Given as goal
 
 abbrev pub invariant-done : goal.invariant-done
 invariant-done l =

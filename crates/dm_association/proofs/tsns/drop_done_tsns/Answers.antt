@@ -1,7 +1,7 @@
 -- The first one goes, which is done.
 use Rattle.std.proofs.Common.{◌∙◌, ◌+◌, ◌%◌, sym, refl, arith}
 use Rattle.dm_association.proofs.TsnSteps.{front_more}
-use Rattle.dm_association.proofs.tsns.pass_done.Goals as goal
+use Rattle.dm_association.proofs.tsns.drop_done_tsns.Goals as goal
 
 pub done-preserved-in-done-2 : goal.done-preserved-in-done-2
 done-preserved-in-done-2 c = (
