@@ -5,7 +5,7 @@ ghost use Rattle.dm_associations.specs.Associations.{TakesPacket, LeavesAssociat
 ghost use Rattle.dm_associations.specs.Ways.{HandsReady, HandsNoneReady};
 ghost use Rattle.dm_flows.specs.Sctps.{sctp_seen};
 
-use crate::hearing::hear;
+use crate::hearing::take_packet;
 use crate::way::SctpWay;
 use dm_flows::{Endpoint, SctpPacket};
 use std::alloc::{AllocError, Global};
@@ -87,9 +87,9 @@ impl Association {
         ensures left { OnErr result (LeavesAssociation self.old (sctp_seen packet.entry) self.new) }
     {
         if packet.source == self.first {
-            hear(&mut self.forth, &mut self.back, &mut self.ended, packet)
+            take_packet(&mut self.forth, &mut self.back, &mut self.ended, packet)
         } else {
-            hear(&mut self.back, &mut self.forth, &mut self.ended, packet)
+            take_packet(&mut self.back, &mut self.forth, &mut self.ended, packet)
         }
     }
 

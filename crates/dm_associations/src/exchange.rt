@@ -21,8 +21,8 @@ fn begins_exchange(chunk: DataChunk<'_>) -> bool
         && begins_with_exchange(chunk.user_data)
 }
 
-/// Whether one of the DATA chunks does so.
-pub(crate) fn begin_exchange(octets: &[u8]) -> bool
+/// Whether a Capabilities-Exchange-Request begins in one of the DATA chunks of a packet.
+pub(crate) fn any_chunk_begins_exchange(octets: &[u8]) -> bool
     ensures { IsTrue result ↔ ChunksBeginExchange octets.now }
 {
     one_list();

@@ -23,7 +23,7 @@ pub(crate) enum Front {
 ///  0 1 2 3 4 5 6 7 8 9 0 1 2 3 4 5 6 7 8 9 0 1 2 3 4 5 6 7 8 9 0 1
 /// | Type = 6, 14  |  Reserved   |T|         Chunk Length          |
 /// ```
-pub(crate) fn front_of(chunks: &[u8]) -> Front
+pub(crate) fn read_front(chunks: &[u8]) -> Front
     ensures { HasFront chunks.now result }
 {
     match init_of(chunks) {

@@ -2,7 +2,7 @@
 ghost use Rattle.std.proofs.Common.{rules};
 
 use crate::association::Association;
-use crate::exchange::begin_exchange;
+use crate::exchange::any_chunk_begins_exchange;
 use crate::way::SctpWay;
 use dm_connections::{Connections, Ends, Takes, TwoWay};
 use dm_flows::SctpPacket;
@@ -90,7 +90,7 @@ impl<'a> Takes<SctpPacket<'a>> for Association {
     }
 
     fn begins_exchange(sent: SctpPacket<'a>) -> bool {
-        begin_exchange(sent.chunks)
+        any_chunk_begins_exchange(sent.chunks)
     }
 
     fn take_sent(&mut self, sent: SctpPacket<'a>) -> Result<(), AllocError> {

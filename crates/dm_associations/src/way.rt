@@ -115,7 +115,7 @@ impl SctpWay {
     }
 
     /// Takes the DATA chunks of a packet. Where memory is wanted those up to some were taken.
-    pub(crate) fn take(&mut self, octets: &[u8]) -> Result<(), AllocError>
+    pub(crate) fn take_data_chunks(&mut self, octets: &[u8]) -> Result<(), AllocError>
         ensures taken { OnOk result (WayTakes self.old octets.now self.new) }
         ensures left { OnErr result (WayLeaves self.old octets.now self.new) }
     {

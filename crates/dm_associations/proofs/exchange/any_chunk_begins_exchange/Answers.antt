@@ -3,7 +3,7 @@ use Rattle.std.proofs.Common.{refl}
 use Rattle.dm_associations.specs.Exchanges.{ChunkBeginsExchange}
 use Rattle.dm_flows.specs.Sctps.{data_seen, HasData, HasNoData}
 use Rattle.dm_associations.proofs.Chunks.{begins_here, begins_later, begins_behind, begins_nowhere}
-use Rattle.dm_associations.proofs.exchange.begin_exchange.Goals as goal
+use Rattle.dm_associations.proofs.exchange.any_chunk_begins_exchange.Goals as goal
 
 pub returns-then-begins_exchange : goal.returns-then-begins_exchange
 returns-then-begins_exchange c =

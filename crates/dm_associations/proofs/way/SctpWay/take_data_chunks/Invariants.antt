@@ -2,7 +2,7 @@ use Rattle.std.proofs.Common.{List}
 use Rattle.dm_associations.proofs.Chunks.{AreBefore}
 use Rattle.dm_associations.specs.Ways.{WayTakesChunks}
 use Rattle.dm_flows.specs.Sctps.{SeenData}
-use Rattle.dm_associations.proofs.way.SctpWay.take.Given as goal
+use Rattle.dm_associations.proofs.way.SctpWay.take_data_chunks.Given as goal
 
 -- these chunks were taken so far
 abbrev pub invariant-chunks : goal.invariant-chunks

@@ -2,7 +2,7 @@
 use Rattle.std.proofs.Common.{◌∷◌, [], ◌++◌, append-nil, subst, List}
 use Rattle.dm_flows.specs.Sctps.{SeenData, data_seen, HasData, HasNoData, AreData}
 use Rattle.dm_associations.proofs.Chunks.{taken_next, before_next, on_err}
-use Rattle.dm_associations.proofs.way.SctpWay.take.Goals as goal
+use Rattle.dm_associations.proofs.way.SctpWay.take_data_chunks.Goals as goal
 
 pub chunks-preserved : goal.chunks-preserved
 chunks-preserved c =
