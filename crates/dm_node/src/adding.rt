@@ -11,7 +11,7 @@ use crate::hosts::Hosts;
 use dm_peer::{Config, Peer};
 
 /// Makes room for a neighbour of this configuration, where none has its host, and notes its number for that.
-pub(crate) fn make_room(
+pub(crate) fn reserve_place(
     peers: &mut Vec<Option<Peer>>,
     hosts: &mut Hosts,
     config: &Config,

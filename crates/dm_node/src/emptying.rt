@@ -6,7 +6,7 @@ ghost use Rattle.dm_node.specs.Holding.{peer_at};
 use dm_peer::Peer;
 
 /// The neighbour of the number, taken out.
-pub(crate) fn take_at(peers: &mut Vec<Option<Peer>>, index: usize) -> Option<Peer>
+pub(crate) fn take_out(peers: &mut Vec<Option<Peer>>, index: usize) -> Option<Peer>
     ensures gone { result ≡ peer_at peers.old.items index }
     ensures without { peers.new.items ≡ without_peer peers.old.items index }
 {
@@ -27,7 +27,7 @@ fn set_back(peer: &mut Option<Peer>)
 }
 
 /// Sets the neighbour of the number back, where there is one.
-pub(crate) fn set_back_at(peers: &mut Vec<Option<Peer>>, index: usize)
+pub(crate) fn set_back_one(peers: &mut Vec<Option<Peer>>, index: usize)
     ensures { peers.new.items ≡ with_set_back peers.old.items index }
 {
     if index < peers.len() {
@@ -36,7 +36,7 @@ pub(crate) fn set_back_at(peers: &mut Vec<Option<Peer>>, index: usize)
 }
 
 /// Sets each neighbour back.
-pub(crate) fn set_back_each(peers: &mut Vec<Option<Peer>>)
+pub(crate) fn set_back_peers(peers: &mut Vec<Option<Peer>>)
     ensures { peers.new.items ≡ all_set_back peers.old.items }
 {
     for peer in peers.iter_mut() {

@@ -23,7 +23,7 @@ pub(crate) struct Hosts {
 }
 
 /// The host in lower case, where it isn't too long for one. It never answers want of memory.
-fn lowered(host: &[u8]) -> Option<ArrayVec<u8, MAX_NAME_LEN>>
+fn lower_host(host: &[u8]) -> Option<ArrayVec<u8, MAX_NAME_LEN>>
     ensures lower { IfSome result (λ l. l.items ≡ lower host.now) }
     ensures long { IfNone result (max_name_len < length host.now) }
 {
@@ -53,14 +53,14 @@ impl Hosts {
         ensures { result
             ≡ if nat_le (length host.now) max_name_len then noted_number self.now (lower host.now) else None }
     {
-        match lowered(host) {
+        match lower_host(host) {
             Some(key) => self.map.get(key.as_slice()).copied(),
             None => None,
         }
     }
 
     /// Notes the number for a host in lower case.
-    fn note_lowered(&mut self, key: &[u8], index: usize) -> Result<(), NoMemory>
+    fn put_lower_host(&mut self, key: &[u8], index: usize) -> Result<(), NoMemory>
         ensures noted { OnOk result ((h : List ℕ)
             → noted_number self.new h ≡ if is_host key.now h then Some index else noted_number self.old h) }
         ensures unchanged { OnErr result ((h : List ℕ) → noted_number self.new h ≡ noted_number self.old h) }
@@ -77,8 +77,8 @@ impl Hosts {
             → noted_number self.new h ≡ if is_host (lower host.now) h then Some index else noted_number self.old h) }
         ensures unchanged { OnErr result ((h : List ℕ) → noted_number self.new h ≡ noted_number self.old h) }
     {
-        match lowered(host) {
-            Some(key) => self.note_lowered(key.as_slice(), index),
+        match lower_host(host) {
+            Some(key) => self.put_lower_host(key.as_slice(), index),
             None => unreachable!(),
         }
     }
@@ -89,13 +89,13 @@ impl Hosts {
         ensures { (h : List ℕ)
             → noted_number self.new h ≡ if is_host (lower host.now) h then None else noted_number self.old h }
     {
-        if let Some(key) = lowered(host) {
+        if let Some(key) = lower_host(host) {
             self.map.swap_remove(key.as_slice());
         }
     }
 
     /// Forgets the host of a neighbour that is gone, where there was one.
-    pub(crate) fn forget_gone(&mut self, gone: &Option<Peer>)
+    pub(crate) fn forget_peer(&mut self, gone: &Option<Peer>)
         ensures { IsForgotten gone.now self.old self.new }
     {
         if let Some(peer) = gone {

@@ -12,7 +12,7 @@ use dm_wire::Octets;
 use std::alloc::{AllocError, Global};
 
 /// What is known behind what came on the connection, where somebody has the place.
-fn meet_behind_at(
+fn meet_in_place(
     place: &mut Option<Acquaintance>,
     exchange: Octets,
     conn: Conn,
@@ -27,7 +27,7 @@ fn meet_behind_at(
 }
 
 /// What is known behind an event that brought no message, where somebody has the place.
-fn meet_after_at(place: &mut Option<Acquaintance>, before: State, peer: &Peer)
+fn meet_after_in_place(place: &mut Option<Acquaintance>, before: State, peer: &Peer)
     ensures { place.new ≡ option_map (known_after before peer.now) place.old }
 {
     if let Some(known) = place {
@@ -122,7 +122,7 @@ impl Acquaintances {
             ≡ with_known index (known_if_any exchange conn before peer.now) (known_of self.old) }
     {
         if index < self.places.len() {
-            meet_behind_at(&mut self.places[index], exchange, conn, before, peer);
+            meet_in_place(&mut self.places[index], exchange, conn, before, peer);
         }
     }
 
@@ -132,7 +132,7 @@ impl Acquaintances {
         ensures { known_of self.new ≡ with_known index (known_after before peer.now) (known_of self.old) }
     {
         if index < self.places.len() {
-            meet_after_at(&mut self.places[index], before, peer);
+            meet_after_in_place(&mut self.places[index], before, peer);
         }
     }
 }

@@ -3,12 +3,12 @@ ghost use Rattle.dm_node.specs.Neighbourhoods.{IsNeighbourhood};
 ghost use Rattle.dm_node.specs.NodeHeld.{AreKept};
 
 use crate::AddFault;
-use crate::adding::make_room;
-use crate::counting::{one_less, one_more};
-use crate::emptying::{set_back_at, set_back_each, take_at};
+use crate::adding::reserve_place;
+use crate::counting::{count_added, count_removed};
+use crate::emptying::{set_back_one, set_back_peers, take_out};
 use crate::hosts::Hosts;
 use crate::looking::peer_at;
-use crate::owners::{Before, Holding, holding_of_any};
+use crate::owners::{Before, Holding, any_holding};
 use dm_peer::laws::{each_event_keeps_settled, each_send_is_spelled, every_peer_is_kept};
 use dm_peer::{Config, Conn, Peer, State};
 use std::alloc::Global;
@@ -82,10 +82,10 @@ impl Neighbours {
     {
         every_peer_is_kept(&peer);
         let index = self.peers.len();
-        match make_room(&mut self.peers, &mut self.hosts, peer.config()) {
+        match reserve_place(&mut self.peers, &mut self.hosts, peer.config()) {
             Ok(()) => {
                 self.peers.push_reserved(Some(peer));
-                self.present = one_more(&self.peers, self.present);
+                self.present = count_added(&self.peers, self.present);
                 Ok(index)
             }
             Err(fault) => Err(fault),
@@ -153,7 +153,7 @@ impl Neighbours {
         ensures closes { close_if_any result.initiated ++ close_if_any result.accepted
             ≡ closes_of_any (peer_at self.now index) }
     {
-        holding_of_any(self.peer(index))
+        any_holding(self.peer(index))
     }
 
     /// The neighbour whose an event is, where it is of one. It never answers want of memory.
@@ -168,12 +168,12 @@ impl Neighbours {
 
     /// What the neighbour is whose an event is; Closed, with nothing held, where it is of none. It never answers want
     /// of memory.
-    pub(crate) fn before(&self, who: Option<usize>) -> Before
+    pub(crate) fn standing(&self, who: Option<usize>) -> Before
         ensures state { result.state ≡ peer_state (concerned_in self.now who) }
         ensures held { (c : Conn) → has result.held c ≡ holds_it c (concerned_in self.now who) }
     {
         let peer = self.concerned(who);
-        let held = holding_of_any(peer);
+        let held = any_holding(peer);
         match peer {
             Some(peer) => Before {
                 state: peer.state(),
@@ -193,9 +193,9 @@ impl Neighbours {
         ensures gone { result ≡ peer_at self.old index }
         ensures without { self.new ≡ without_peer self.old index }
     {
-        let gone = take_at(&mut self.peers, index);
-        self.hosts.forget_gone(&gone);
-        self.present = one_less(&gone, self.present);
+        let gone = take_out(&mut self.peers, index);
+        self.hosts.forget_peer(&gone);
+        self.present = count_removed(&gone, self.present);
         gone
     }
 
@@ -205,7 +205,7 @@ impl Neighbours {
     {
         each_event_keeps_settled();
         each_send_is_spelled();
-        set_back_at(&mut self.peers, index);
+        set_back_one(&mut self.peers, index);
     }
 
     /// Sets each neighbour back to Closed. It never answers want of memory.
@@ -214,7 +214,7 @@ impl Neighbours {
     {
         each_event_keeps_settled();
         each_send_is_spelled();
-        set_back_each(&mut self.peers);
+        set_back_peers(&mut self.peers);
     }
 }
 

@@ -14,7 +14,11 @@ use dm_peer::{Config, ConfigFault};
 use std::alloc::Global;
 
 /// The template's configuration for the host; none where the template's node can't have it as its peer.
-fn made_for(alloc: Global, template: &Config, host: &[u8]) -> Result<Option<Config>, NoMemory>
+fn config_for_host(
+    alloc: Global,
+    template: &Config,
+    host: &[u8],
+) -> Result<Option<Config>, NoMemory>
     ensures made { IfOk result (λ o. IfSome o (IsMadeFor template.now host.now)) }
     ensures none { IfOk result (λ o. IfNone o (IsUnfit template.now host.now)) }
 {
@@ -26,7 +30,7 @@ fn made_for(alloc: Global, template: &Config, host: &[u8]) -> Result<Option<Conf
 }
 
 /// The configuration of the host's template for the host, where it has one that fits.
-fn made_by<S: Strangers>(
+fn config_by_template<S: Strangers>(
     alloc: Global,
     strangers: &S,
     host: &[u8],
@@ -35,13 +39,13 @@ fn made_by<S: Strangers>(
     ensures none { IfOk result (λ o. IfNone o (MakesNoneFor (S.policy strangers.now) host.now)) }
 {
     match strangers.template(host) {
-        Some(template) => made_for(alloc, template, host),
+        Some(template) => config_for_host(alloc, template, host),
         None => Ok(None),
     }
 }
 
 /// A configuration for the host whose CER the octets are, which concern no neighbour, where there may be one more.
-pub(crate) fn offered<S: Strangers>(
+pub(crate) fn offered_config<S: Strangers>(
     alloc: Global,
     neighbours: &Neighbours,
     strangers: &S,
@@ -57,7 +61,7 @@ pub(crate) fn offered<S: Strangers>(
     match caller(octets) {
         Some((_, host)) => {
             if neighbours.count() < strangers.most() {
-                made_by(alloc, strangers, host)
+                config_by_template(alloc, strangers, host)
             } else {
                 Ok(None)
             }

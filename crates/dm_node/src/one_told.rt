@@ -14,7 +14,7 @@ ghost use Rattle.dm_peer.specs.declared.fault.PeerFault.{PeerFault};
 ghost use Rattle.dm_peer.specs.declared.fault.PeerFault.TheVariants as peer_faults;
 
 use crate::neighbours::{Neighbours, neighbours_are_sound};
-use crate::routing::told_of;
+use crate::routing::peer_event;
 use crate::{Answer, NodeEvent, OrderFault};
 use dm_machine::laws::each_opening_has_its_message;
 use dm_peer::laws::{each_event_is_one_step, every_peer_is_kept};
@@ -84,7 +84,7 @@ pub(crate) fn tell_one(
         → result ≡ Err (faults.Peer f) }
     ensures unchanged { OnErr result (neighbours.new ≡ neighbours.old) }
 {
-    let told = told_of(event);
+    let told = peer_event(event);
     let done = tell(
         alloc,
         &mut neighbours.peers,

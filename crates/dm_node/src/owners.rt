@@ -49,7 +49,7 @@ fn is_unchanged(before: Holding, after: Holding) -> bool
 }
 
 /// What the peer holds.
-fn holding_of(peer: &Peer) -> Holding
+fn peer_holding(peer: &Peer) -> Holding
     ensures initiated { result.initiated ≡ own_of peer.now }
     ensures accepted { result.accepted ≡ other_of peer.now }
     ensures holds { (c : Conn) → has result c ≡ holds c peer.now }
@@ -63,13 +63,13 @@ fn holding_of(peer: &Peer) -> Holding
 }
 
 /// What a neighbour holds, where there is one.
-pub(crate) fn holding_of_any(peer: Option<&Peer>) -> Holding
+pub(crate) fn any_holding(peer: Option<&Peer>) -> Holding
     ensures holds { (c : Conn) → has result c ≡ holds_it c (option_copied peer.entry) }
     ensures closes { close_if_any result.initiated ++ close_if_any result.accepted
         ≡ closes_of_any (option_copied peer.entry) }
 {
     match peer {
-        Some(peer) => holding_of(peer),
+        Some(peer) => peer_holding(peer),
         None => Holding {
             initiated: None,
             accepted: None,

@@ -16,7 +16,7 @@ use dm_peer::{Conn, Event};
 use dm_slots::Slots;
 
 /// The event as its neighbour is told it.
-pub(crate) fn told_of<'a>(event: NodeEvent<'a>) -> Event<'a>
+pub(crate) fn peer_event<'a>(event: NodeEvent<'a>) -> Event<'a>
     ensures { event_told result ≡ told_of event.entry }
 {
     match event {
@@ -60,7 +60,11 @@ fn porter<S: Strangers>(neighbours: &Neighbours, strangers: &S) -> Option<usize>
 }
 
 /// The neighbour that octets on a connection that nobody holds are for.
-fn first_for<S: Strangers>(neighbours: &Neighbours, strangers: &S, octets: &[u8]) -> Option<usize>
+fn caller_or_porter<S: Strangers>(
+    neighbours: &Neighbours,
+    strangers: &S,
+    octets: &[u8],
+) -> Option<usize>
     ensures there { IfSome result (λ i. IsSome (peer_at neighbours.now i)) }
     ensures found { IfSome result (IsFirstFor (S.policy strangers.now) neighbours.now octets.now) }
     ensures none { IfNone result ((i : ℕ)
@@ -84,7 +88,7 @@ fn holder(neighbours: &Neighbours, slots: &Slots, conn: Conn) -> Option<usize>
 }
 
 /// The neighbour that octets on a connection are for.
-fn addressed<S: Strangers>(
+fn addressed_neighbour<S: Strangers>(
     neighbours: &Neighbours,
     slots: &Slots,
     strangers: &S,
@@ -99,12 +103,12 @@ fn addressed<S: Strangers>(
 {
     match holder(neighbours, slots, conn) {
         Some(index) => Some(index),
-        None => first_for(neighbours, strangers, octets),
+        None => caller_or_porter(neighbours, strangers, octets),
     }
 }
 
 /// The number, where a neighbour has it.
-fn numbered(neighbours: &Neighbours, index: usize) -> Result<Option<usize>, OrderFault>
+fn neighbour_numbered(neighbours: &Neighbours, index: usize) -> Result<Option<usize>, OrderFault>
     ensures found { IfOk result (λ o. (o ≡ Some index) × IsSome (peer_at neighbours.now index)) }
     ensures fault { IfErr result (λ f. (f ≡ NoNeighbour) × (peer_at neighbours.now index ≡ None)) }
 {
@@ -116,7 +120,7 @@ fn numbered(neighbours: &Neighbours, index: usize) -> Result<Option<usize>, Orde
 
 /// Whose the event is: of one neighbour, or of none.
 #[inline(always)]
-pub(crate) fn whose<S: Strangers>(
+pub(crate) fn concerned_neighbour<S: Strangers>(
     neighbours: &Neighbours,
     slots: &Slots,
     strangers: &S,
@@ -138,11 +142,11 @@ pub(crate) fn whose<S: Strangers>(
         | NodeEvent::Stop(index, _)
         | NodeEvent::Timeout(index)
         | NodeEvent::Tick(index)
-        | NodeEvent::Submit(index, _) => numbered(neighbours, index),
+        | NodeEvent::Submit(index, _) => neighbour_numbered(neighbours, index),
         NodeEvent::Ack(conn) | NodeEvent::Nack(conn) | NodeEvent::Gone(conn) => {
             Ok(holder(neighbours, slots, conn))
         }
-        NodeEvent::Arrived(conn, octets) => Ok(addressed(
+        NodeEvent::Arrived(conn, octets) => Ok(addressed_neighbour(
             neighbours, slots, strangers, conn, octets,
         )),
     }

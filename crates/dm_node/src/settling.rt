@@ -18,7 +18,7 @@ use dm_slots::Slots;
 use dm_slots::laws::what_is_there_stays;
 
 /// What the peer holds, where it is open, takes messages of at most `most` octets.
-fn raise_held(peer: &Peer, slots: &mut Slots, most: u32)
+fn raise_if_open(peer: &Peer, slots: &mut Slots, most: u32)
     ensures owners { owners_of slots.new ≡ owners_of slots.old }
     ensures raised { intakes_of slots.new ≡ raised most peer.now (intakes_of slots.old) }
 {
@@ -28,13 +28,13 @@ fn raise_held(peer: &Peer, slots: &mut Slots, most: u32)
 }
 
 /// What the neighbour of the number holds, where there is one and it is open, takes messages of at most `most` octets.
-fn raise_for(neighbours: &Neighbours, slots: &mut Slots, index: Option<usize>, most: u32)
+fn raise_concerned(neighbours: &Neighbours, slots: &mut Slots, index: Option<usize>, most: u32)
     ensures owners { owners_of slots.new ≡ owners_of slots.old }
     ensures raised { intakes_of slots.new
         ≡ raised_for most (concerned_in neighbours.now index) (intakes_of slots.old) }
 {
     if let Some(peer) = neighbours.concerned(index) {
-        raise_held(peer, slots, most);
+        raise_if_open(peer, slots, most);
     }
 }
 
@@ -60,5 +60,5 @@ pub(crate) fn settle(
     what_is_there_stays();
     reown(neighbours, slots, before, answer.neighbour);
     slots.leave(answer.actions.as_slice());
-    raise_for(neighbours, slots, answer.neighbour, most);
+    raise_concerned(neighbours, slots, answer.neighbour, most);
 }

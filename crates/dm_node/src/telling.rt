@@ -22,7 +22,7 @@ use crate::meeting::{copy_exchange, meet_after, meet_behind};
 use crate::neighbours::{Neighbours, neighbours_are_sound};
 use crate::one_told::tell_one;
 use crate::owners::Holding;
-use crate::routing::whose;
+use crate::routing::concerned_neighbour;
 use crate::unknown::tell_unknown;
 use crate::{Answer, NodeEvent, OrderFault, Strangers};
 use dm_base::Node;
@@ -139,11 +139,11 @@ pub(crate) fn tell_message<S: Strangers>(
 {
     neighbours_are_sound(neighbours);
     let event = NodeEvent::Arrived(conn, octets);
-    let who = match whose(neighbours, slots, strangers, event) {
+    let who = match concerned_neighbour(neighbours, slots, strangers, event) {
         Ok(who) => who,
         Err(_) => unreachable!(),
     };
-    let before = neighbours.before(who);
+    let before = neighbours.standing(who);
     let exchange = match copy_exchange(alloc, known, before.state, octets) {
         Ok(exchange) => exchange,
         Err(error) => return Err(error),
@@ -204,11 +204,11 @@ pub(crate) fn tell_event<S: Strangers>(
 {
     refusals_go_by_rule();
     neighbours_are_sound(neighbours);
-    let who = match whose(neighbours, slots, strangers, event) {
+    let who = match concerned_neighbour(neighbours, slots, strangers, event) {
         Ok(who) => who,
         Err(fault) => return Err(fault),
     };
-    let before = neighbours.before(who);
+    let before = neighbours.standing(who);
     match tell_neighbours(alloc, own, neighbours, strangers, who, event, answer) {
         Ok(()) => {
             meet_after(neighbours, known, answer.neighbour, before.state);

@@ -9,7 +9,7 @@ ghost use Rattle.dm_peer.specs.declared.fault.PeerFault.TheVariants as peer_faul
 
 use crate::calling::answer_to;
 use crate::neighbours::Neighbours;
-use crate::offering::offered;
+use crate::offering::offered_config;
 use crate::welcoming::welcome;
 use crate::{Answer, NodeEvent, OrderFault, Strangers};
 use arrayvec::ArrayVec;
@@ -63,7 +63,7 @@ fn welcome_or_turn_away<S: Strangers>(
     ensures memory { IfErr result (λ f. (f ≡ faults.Peer peer_faults.NoMemory) × IsSome (caller_of octets.now)) }
     ensures unchanged { OnErr result (neighbours.new ≡ neighbours.old) }
 {
-    match offered(alloc, neighbours, strangers, octets) {
+    match offered_config(alloc, neighbours, strangers, octets) {
         Ok(Some(config)) => welcome(alloc, neighbours, config, conn, octets),
         Ok(None) => turn_away(alloc, node, conn, octets),
         Err(_) => Err(OrderFault::Peer(PeerFault::NoMemory)),
@@ -71,7 +71,7 @@ fn welcome_or_turn_away<S: Strangers>(
 }
 
 /// What is done at an event that concerns no neighbour.
-fn at_unknown<S: Strangers>(
+fn stranger_actions<S: Strangers>(
     alloc: Global,
     node: &Node,
     neighbours: &mut Neighbours,
@@ -113,7 +113,7 @@ pub(crate) fn tell_unknown<S: Strangers>(
     ensures memory { IfErr result (λ f. (f ≡ faults.Peer peer_faults.NoMemory) × IsStrangeCer event.entry) }
     ensures unchanged { OnErr result (neighbours.new ≡ neighbours.old) }
 {
-    match at_unknown(alloc, node, neighbours, strangers, event) {
+    match stranger_actions(alloc, node, neighbours, strangers, event) {
         Ok(done) => {
             answer.neighbour = done.neighbour;
             answer.actions = done.actions;

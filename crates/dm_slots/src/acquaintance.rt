@@ -15,7 +15,7 @@ use std::alloc::Global;
 use std::marker::Model;
 
 /// Whether a peer in this state is open.
-fn stands_open(state: State) -> bool
+fn is_open_state(state: State) -> bool
     ensures { result ≡ is_open state }
 {
     match state {
@@ -49,7 +49,7 @@ fn exchange_in(octets: &[u8]) -> Option<SenderRef<'_>>
 pub fn is_exchange(state: State, octets: &[u8]) -> bool
     ensures { result ≡ is_exchange_to state octets.now }
 {
-    !stands_open(state) && exchange_in(octets).is_some()
+    !is_open_state(state) && exchange_in(octets).is_some()
 }
 
 /// What the other side said of itself: the CER or CEA by which a peer was opened, of the last time that it was. It
@@ -132,7 +132,7 @@ impl Acquaintance {
     }
 
     /// This CER waits for its CEA. It never answers want of memory.
-    fn keep_waiting(&mut self, exchange: Octets)
+    fn set_waiting(&mut self, exchange: Octets)
         ensures { self.new ≡ with_waiting exchange self.old }
     {
         self.waiting = Some(exchange);
@@ -166,7 +166,7 @@ impl Acquaintance {
         if peer.is_open() {
             self.meet_opening(exchange, conn, peer);
         } else if !is_in_election(before) && is_in_election(peer.state()) {
-            self.keep_waiting(exchange);
+            self.set_waiting(exchange);
         }
     }
 
@@ -176,7 +176,7 @@ impl Acquaintance {
     pub fn meet_after(&mut self, before: State, peer: &Peer)
         ensures { self.new ≡ known_after before peer.now self.old }
     {
-        if !stands_open(before) && peer.is_open() {
+        if !is_open_state(before) && peer.is_open() {
             self.meet_waiting();
         }
     }

@@ -11,11 +11,11 @@ use std::marker::Model;
 /// What stands at the front of what came.
 #[derive(Clone, Copy)]
 pub enum Front<'a> {
-    /// No whole message yet.
+    /// No whole message; nor ever one behind a fault that was told.
     Nothing,
-    /// A message.
+    /// A whole message, these octets.
     Message(&'a [u8]),
-    /// What no message begins with.
+    /// Octets with which no message begins.
     Fault,
 }
 

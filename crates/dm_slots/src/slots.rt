@@ -29,7 +29,7 @@ pub(crate) struct Slot {
 #[derive(Drop)]
 pub struct Slots {
     map: IndexMap<u64, Slot>,
-    /// Where the connection stood whose limit was asked for last. Who looks one up looks there first.
+    /// The place in `map` of the connection whose greatest Message Length was looked at last. It is looked at first.
     last: usize,
 }
 
@@ -57,7 +57,7 @@ impl Slots {
     }
 
     /// What came on the connection, where it is there.
-    fn get(&self, conn: Conn) -> Option<&Intake>
+    fn intake(&self, conn: Conn) -> Option<&Intake>
         ensures { option_copied result ≡ intakes_of self.now conn.0 }
     {
         match self.slot(conn) {
@@ -105,7 +105,7 @@ impl Slots {
     pub fn has(&self, conn: Conn) -> bool
         ensures { result ≡ is_there conn.0 (intakes_of self.now) }
     {
-        self.get(conn).is_some()
+        self.intake(conn).is_some()
     }
 
     #[tactic(auto, using(crate::proofs::Steps::front_there, crate::proofs::Steps::front_none))]
@@ -114,7 +114,7 @@ impl Slots {
     pub fn front(&self, conn: Conn) -> Front<'_>
         ensures { IsFrontAt (intakes_of self.now conn.0) result }
     {
-        match self.get(conn) {
+        match self.intake(conn) {
             Some(intake) => intake.front(),
             None => Front::Nothing,
         }
@@ -127,7 +127,7 @@ impl Slots {
         ensures whole { IfSome result (λ size. IsWholeAt (intakes_of self.now conn.0) piece.now size) }
         ensures none { IfNone result (IfSome (intakes_of self.now conn.0) (λ i. IsNotWhole i piece.now)) }
     {
-        match self.get(conn) {
+        match self.intake(conn) {
             Some(intake) => intake.whole_in(piece),
             None => None,
         }
@@ -292,7 +292,7 @@ impl Slots {
 
     #[tactic(auto, using(crate::proofs::Steps::left_close))]
     /// What the action closes is no more there. It never answers want of memory.
-    fn leave_one(&mut self, action: &Action)
+    fn leave_closed(&mut self, action: &Action)
         ensures left { intakes_of self.new ≡ left_by (action.now ∷ []) (intakes_of self.old) }
         ensures owners { owners_of self.new ≡ closed_by (action.now ∷ []) (owners_of self.old) }
     {
@@ -307,7 +307,7 @@ impl Slots {
         ensures owners { owners_of self.new ≡ closed_by actions.now (owners_of self.old) }
     {
         if let [action, rest @ ..] = actions {
-            self.leave_one(action);
+            self.leave_closed(action);
             self.leave(rest);
         }
     }

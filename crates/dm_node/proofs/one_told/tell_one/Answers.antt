@@ -14,15 +14,15 @@ pub returns-in-Ok-clause-refuses : goal.returns-in-Ok-clause-refuses
 returns-in-Ok-clause-refuses c = λ f out.
     not_done _ f c.tell-done.result c.in-Ok.is
     (c.tell-done.ensures.refuses f
-    (subst (λ (l : List (Option Peer)). IsRuledOut l c.args.index (event_told c.told_of-told.result) f) (sym c.neighbours.view_is)
-    (subst (λ (e : PeerEvent). IsRuledOut c.args.neighbours.now c.args.index e f) (sym c.told_of-told.ensures) out)))
+    (subst (λ (l : List (Option Peer)). IsRuledOut l c.args.index (event_told c.peer_event-told.result) f) (sym c.neighbours.view_is)
+    (subst (λ (e : PeerEvent). IsRuledOut c.args.neighbours.now c.args.index e f) (sym c.peer_event-told.ensures) out)))
 
 pub returns-in-Err-clause-refuses : goal.returns-in-Err-clause-refuses
 returns-in-Err-clause-refuses c = λ f out.
     ap (λ g. Err (faults.Peer g)) (same_fault c.in-Err.fault f c.tell-done.result c.in-Err.is
     (c.tell-done.ensures.refuses f
-    (subst (λ (l : List (Option Peer)). IsRuledOut l c.args.index (event_told c.told_of-told.result) f) (sym c.neighbours.view_is)
-    (subst (λ (e : PeerEvent). IsRuledOut c.args.neighbours.now c.args.index e f) (sym c.told_of-told.ensures) out))))
+    (subst (λ (l : List (Option Peer)). IsRuledOut l c.args.index (event_told c.peer_event-told.result) f) (sym c.neighbours.view_is)
+    (subst (λ (e : PeerEvent). IsRuledOut c.args.neighbours.now c.args.index e f) (sym c.peer_event-told.ensures) out))))
 
 pub returns-in-Err-clause-refused : goal.returns-in-Err-clause-refused
 returns-in-Err-clause-refused c = λ policy concerned.
@@ -31,7 +31,7 @@ returns-in-Err-clause-refused c = λ policy concerned.
       concerned,
       subst (λ (l : List (Option Peer)). IsRefusedBy l c.args.index (told_of c.args.event) c.in-Err.fault) c.neighbours.view_is
           (subst (λ (e : PeerEvent). IsRefusedBy c.neighbours.inside.peers.items c.args.index e c.in-Err.fault)
-          c.told_of-told.ensures c.in-Err.ensures.refused),
+          c.peer_event-told.ensures c.in-Err.ensures.refused),
     )
 
 pub returns-in-Err-clause-ruled : goal.returns-in-Err-clause-ruled
@@ -43,6 +43,6 @@ returns-in-Err-clause-ruled c = λ policy concerned.
         concerned,
         subst (λ (l : List (Option Peer)). IsRuledOut l c.args.index (told_of c.args.event) c.in-Err.fault) c.neighbours.view_is
             (subst (λ (e : PeerEvent). IsRuledOut c.neighbours.inside.peers.items c.args.index e c.in-Err.fault)
-            c.told_of-told.ensures out),
+            c.peer_event-told.ensures out),
       )
     ]

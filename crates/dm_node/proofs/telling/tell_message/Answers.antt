@@ -14,10 +14,10 @@ returns-in-Ok-tell_neighbours-clause-met g c =
     let ps = c.args.neighbours.now in
     let looked = state_looked policy ps (event.Arrived c.args.conn c.args.octets) c.in-Ok.who _
     c.neighbours_are_sound.ensures.apart c.in-Ok.ensures.concerned c.in-Ok.ensures.nobody
-    c.before-before.ensures.state in
+    c.standing-before.ensures.state in
     meets policy c.args.conn c.args.octets.now c.args.own.now ps c.tell_neighbours.new.neighbours
     c.tell_neighbours.new.answer.neighbour c.tell_neighbours.new.answer.actions.items (known_of c.args.known.now)
-    (known_of c.copy_exchange.new.known) (known_of c.meet_behind.new.known) c.before-before.result.state c.in-Ok-copy_exchange.exchange looked
+    (known_of c.copy_exchange.new.known) (known_of c.meet_behind.new.known) c.standing-before.result.state c.in-Ok-copy_exchange.exchange looked
     c.in-Ok-copy_exchange.ensures.copied c.copy_exchange.ensures.same c.in-Ok-tell_neighbours.ensures.told c.meet_behind.ensures.met
     c.meet_behind.ensures.unmet
 
@@ -27,14 +27,14 @@ returns-in-Ok-tell_neighbours-clause-places g c =
     let ps = c.args.neighbours.now in
     let looked = state_looked policy ps (event.Arrived c.args.conn c.args.octets) c.in-Ok.who _
     c.neighbours_are_sound.ensures.apart c.in-Ok.ensures.concerned c.in-Ok.ensures.nobody
-    c.before-before.ensures.state in
+    c.standing-before.ensures.state in
     known_moved (λ state q a. known_at c.args.conn state q c.args.octets.now a) policy c.args.conn c.args.octets.now
     c.args.own.now ps c.tell_neighbours.new.neighbours c.tell_neighbours.new.answer.neighbour
     c.tell_neighbours.new.answer.actions.items (known_of c.args.known.now) (known_of c.meet_behind.new.known) c.requires.places
     c.in-Ok-tell_neighbours.ensures.told
     (meets policy c.args.conn c.args.octets.now c.args.own.now ps c.tell_neighbours.new.neighbours
     c.tell_neighbours.new.answer.neighbour c.tell_neighbours.new.answer.actions.items (known_of c.args.known.now)
-    (known_of c.copy_exchange.new.known) (known_of c.meet_behind.new.known) c.before-before.result.state c.in-Ok-copy_exchange.exchange looked
+    (known_of c.copy_exchange.new.known) (known_of c.meet_behind.new.known) c.standing-before.result.state c.in-Ok-copy_exchange.exchange looked
     c.in-Ok-copy_exchange.ensures.copied c.copy_exchange.ensures.same c.in-Ok-tell_neighbours.ensures.told c.meet_behind.ensures.met
     c.meet_behind.ensures.unmet)
 
@@ -44,11 +44,11 @@ meet_behind-requires g c = λ i is none.
     let ps = c.args.neighbours.now in
     let looked = state_looked policy ps (event.Arrived c.args.conn c.args.octets) c.in-Ok.who _
     c.neighbours_are_sound.ensures.apart c.in-Ok.ensures.concerned c.in-Ok.ensures.nobody
-    c.before-before.ensures.state in
+    c.standing-before.ensures.state in
     c.in-Ok-copy_exchange.ensures.room
     (room_for policy c.args.conn c.args.octets.now c.args.own.now ps c.tell_neighbours.new.neighbours
     c.tell_neighbours.new.answer.neighbour c.tell_neighbours.new.answer.actions.items (known_of c.args.known.now)
-    c.before-before.result.state i c.requires.places looked c.in-Ok-tell_neighbours.ensures.told is
+    c.standing-before.result.state i c.requires.places looked c.in-Ok-tell_neighbours.ensures.told is
     (ap (λ l. nat_lt i (length l)) (sym c.copy_exchange.ensures.same) ∙ none))
 
 pub returns-in-Err-copy_exchange-clause-memory : goal.returns-in-Err-copy_exchange-clause-memory
@@ -57,8 +57,8 @@ returns-in-Err-copy_exchange-clause-memory g c =
     let ps = c.args.neighbours.now in
     let looked = state_looked policy ps (event.Arrived c.args.conn c.args.octets) c.in-Ok.who _
     c.neighbours_are_sound.ensures.apart c.in-Ok.ensures.concerned c.in-Ok.ensures.nobody
-    c.before-before.ensures.state in
-    inr (is_copied policy c.args.conn c.args.octets.now ps c.before-before.result.state looked c.in-Err-copy_exchange.ensures.memory)
+    c.standing-before.ensures.state in
+    inr (is_copied policy c.args.conn c.args.octets.now ps c.standing-before.result.state looked c.in-Err-copy_exchange.ensures.memory)
 
 pub returns-in-Err-tell_neighbours-clause-memory : goal.returns-in-Err-tell_neighbours-clause-memory
 returns-in-Err-tell_neighbours-clause-memory g c =
@@ -70,7 +70,7 @@ returns-in-Ok-tell_neighbours-clause-before g c =
     let ps = c.args.neighbours.now in
     let looked = held_looked policy ps (event.Arrived c.args.conn c.args.octets) c.in-Ok.who _
     c.neighbours_are_sound.ensures.apart c.in-Ok.ensures.concerned c.in-Ok.ensures.nobody
-    c.before-before.ensures.held in
+    c.standing-before.ensures.held in
     reowned_moved policy c.args.conn c.args.octets.now c.args.own.now ps
     c.tell_neighbours.new.neighbours c.tell_neighbours.new.answer.neighbour
-    c.tell_neighbours.new.answer.actions.items c.before-before.result.held looked c.in-Ok-tell_neighbours.ensures.told
+    c.tell_neighbours.new.answer.actions.items c.standing-before.result.held looked c.in-Ok-tell_neighbours.ensures.told

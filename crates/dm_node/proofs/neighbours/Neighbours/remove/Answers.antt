@@ -4,23 +4,23 @@ use Rattle.dm_node.proofs.Renamed.{named_without}
 use Rattle.dm_node.proofs.Rostered.{none_free, none_named, none_kept, apart_set, unlike_set, kept_set}
 use Rattle.dm_node.proofs.neighbours.Neighbours.remove.Goals as goal
 
-pub one_less-self-inside-requires : goal.one_less-self-inside-requires
-one_less-self-inside-requires c =
-    some_before c.self.inside.peers.items c.args.index c.self.inside.present c.take_at-gone.result
-    c.take_at-gone.ensures.gone c.self.invariant.counted
+pub count_removed-self-inside-requires : goal.count_removed-self-inside-requires
+count_removed-self-inside-requires c =
+    some_before c.self.inside.peers.items c.args.index c.self.inside.present c.take_out-gone.result
+    c.take_out-gone.ensures.gone c.self.invariant.counted
 
 pub invariant_of-self : goal.invariant_of-self
 invariant_of-self c =
     let ps = c.self.inside.peers.items in
     record {
-      apart = apart_set ps _ c.args.index _ c.take_at-gone.ensures.without none_free c.self.invariant.apart;
-      unlike = unlike_set ps _ c.args.index _ c.take_at-gone.ensures.without (none_named ps c.args.index)
+      apart = apart_set ps _ c.args.index _ c.take_out-gone.ensures.without none_free c.self.invariant.apart;
+      unlike = unlike_set ps _ c.args.index _ c.take_out-gone.ensures.without (none_named ps c.args.index)
           c.self.invariant.unlike;
-      kept = kept_set ps _ c.args.index _ c.take_at-gone.ensures.without none_kept c.self.invariant.kept;
-      named = named_without c.self.inside.hosts _ ps _ c.args.index c.take_at-gone.result
-          c.take_at-gone.ensures.without (sym c.take_at-gone.ensures.gone) c.forget_gone.ensures
+      kept = kept_set ps _ c.args.index _ c.take_out-gone.ensures.without none_kept c.self.invariant.kept;
+      named = named_without c.self.inside.hosts _ ps _ c.args.index c.take_out-gone.result
+          c.take_out-gone.ensures.without (sym c.take_out-gone.ensures.gone) c.forget_peer.ensures
           c.self.invariant.named;
-      counted = counted_less ps _ c.args.index c.self.inside.present _ c.take_at-gone.result
-          c.take_at-gone.ensures.gone c.self.invariant.counted c.take_at-gone.ensures.without
-          c.one_less-self-inside.ensures.gone c.one_less-self-inside.ensures.nobody;
+      counted = counted_less ps _ c.args.index c.self.inside.present _ c.take_out-gone.result
+          c.take_out-gone.ensures.gone c.self.invariant.counted c.take_out-gone.ensures.without
+          c.count_removed-self-inside.ensures.gone c.count_removed-self-inside.ensures.nobody;
     }

@@ -10,13 +10,13 @@ pub invariant_of-self : goal.invariant_of-self
 invariant_of-self c =
     let ps = c.self.inside.peers.items in
     record {
-      apart = apart_set ps _ c.args.index _ c.set_back_at.ensures (λ d. back_holds d _) c.self.invariant.apart;
-      unlike = unlike_set ps _ c.args.index _ c.set_back_at.ensures (back_named ps c.args.index)
+      apart = apart_set ps _ c.args.index _ c.set_back_one.ensures (λ d. back_holds d _) c.self.invariant.apart;
+      unlike = unlike_set ps _ c.args.index _ c.set_back_one.ensures (back_named ps c.args.index)
           c.self.invariant.unlike;
-      kept = kept_set ps _ c.args.index _ c.set_back_at.ensures
+      kept = kept_set ps _ c.args.index _ c.set_back_one.ensures
           (λ p. back_kept c.each_event_keeps_settled.ensures.fresh c.each_send_is_spelled.ensures.fresh
           (peer_at ps c.args.index) p (c.self.invariant.kept c.args.index)) c.self.invariant.kept;
-      named = named_same c.self.inside.hosts ps _ (back_hosts ps _ c.args.index c.set_back_at.ensures)
+      named = named_same c.self.inside.hosts ps _ (back_hosts ps _ c.args.index c.set_back_one.ensures)
           c.self.invariant.named;
-      counted = c.self.invariant.counted ∙ sym (present_back ps _ c.args.index c.set_back_at.ensures);
+      counted = c.self.invariant.counted ∙ sym (present_back ps _ c.args.index c.set_back_one.ensures);
     }

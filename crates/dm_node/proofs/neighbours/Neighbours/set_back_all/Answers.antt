@@ -9,11 +9,11 @@ pub invariant_of-self : goal.invariant_of-self
 invariant_of-self c =
     let ps = c.self.inside.peers.items in
     record {
-      apart = apart_all ps _ c.set_back_each.ensures;
-      unlike = unlike_all ps _ c.set_back_each.ensures c.self.invariant.unlike;
+      apart = apart_all ps _ c.set_back_peers.ensures;
+      unlike = unlike_all ps _ c.set_back_peers.ensures c.self.invariant.unlike;
       kept = kept_all c.each_event_keeps_settled.ensures.fresh c.each_send_is_spelled.ensures.fresh ps _
-          c.set_back_each.ensures c.self.invariant.kept;
-      named = named_same c.self.inside.hosts ps _ (all_back_hosts ps _ c.set_back_each.ensures)
+          c.set_back_peers.ensures c.self.invariant.kept;
+      named = named_same c.self.inside.hosts ps _ (all_back_hosts ps _ c.set_back_peers.ensures)
           c.self.invariant.named;
-      counted = c.self.invariant.counted ∙ sym (present_all_back ps _ c.set_back_each.ensures);
+      counted = c.self.invariant.counted ∙ sym (present_all_back ps _ c.set_back_peers.ensures);
     }

@@ -1,7 +1,7 @@
 use Rattle.std.proofs.Common.{Some, ap, ◌∙◌, if◌then◌else◌}
 use Rattle.dm_node.specs.Naming.{is_host, noted_number}
 use Rattle.dm_node.proofs.Keyed.{found_updated}
-use Rattle.dm_node.proofs.hosts.Hosts.note_lowered.Goals as goal
+use Rattle.dm_node.proofs.hosts.Hosts.put_lower_host.Goals as goal
 
 pub returns-clause-noted : goal.returns-clause-noted
 returns-clause-noted c = λ h.

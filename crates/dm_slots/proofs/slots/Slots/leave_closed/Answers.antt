@@ -2,7 +2,7 @@
 use Rattle.std.proofs.Common.{[], ◌∙◌}
 use Rattle.dm_slots.specs.Held.{intakes_of, owners_of}
 use Rattle.dm_slots.proofs.Steps.{left_close, closed_first}
-use Rattle.dm_slots.proofs.slots.Slots.leave_one.Goals as goal
+use Rattle.dm_slots.proofs.slots.Slots.leave_closed.Goals as goal
 
 pub returns-in-Close-clause-left : goal.returns-in-Close-clause-left
 returns-in-Close-clause-left c =

@@ -2,16 +2,16 @@
 use Rattle.std.proofs.Common.{ℕ, IfSome, IfNone, sym, subst}
 use Rattle.dm_node.specs.Telling.{Concerns}
 use Rattle.dm_node.specs.declared.events.NodeEvent.{NodeEvent}
-use Rattle.dm_node.proofs.routing.whose.Goals as goal
+use Rattle.dm_node.proofs.routing.concerned_neighbour.Goals as goal
 
 pub returns-in-Arrived-clause-concerned : goal.returns-in-Arrived-clause-concerned
 returns-in-Arrived-clause-concerned g c =
     let policy = g.S.Strangers.policy c.args.strangers.now in
-    subst (λ (e : NodeEvent). IfSome c.addressed.result (Concerns policy c.args.neighbours.now e))
-    (sym c.in-Arrived.is) c.addressed.ensures.found
+    subst (λ (e : NodeEvent). IfSome c.addressed_neighbour.result (Concerns policy c.args.neighbours.now e))
+    (sym c.in-Arrived.is) c.addressed_neighbour.ensures.found
 
 pub returns-in-Arrived-clause-nobody : goal.returns-in-Arrived-clause-nobody
 returns-in-Arrived-clause-nobody g c =
     let policy = g.S.Strangers.policy c.args.strangers.now in
-    subst (λ (e : NodeEvent). IfNone c.addressed.result
-    ((i : ℕ) → Concerns policy c.args.neighbours.now e i → ⊥)) (sym c.in-Arrived.is) c.addressed.ensures.none
+    subst (λ (e : NodeEvent). IfNone c.addressed_neighbour.result
+    ((i : ℕ) → Concerns policy c.args.neighbours.now e i → ⊥)) (sym c.in-Arrived.is) c.addressed_neighbour.ensures.none

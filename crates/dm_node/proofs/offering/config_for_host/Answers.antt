@@ -2,7 +2,7 @@
 use Rattle.std.proofs.Common.{◌∙◌, sym}
 use Rattle.dm_peer.specs.Hosts.{config_fault}
 use Rattle.dm_node.proofs.Welcomed.{fits_where_made}
-use Rattle.dm_node.proofs.offering.made_for.Goals as goal
+use Rattle.dm_node.proofs.offering.config_for_host.Goals as goal
 
 pub returns-in-Ok-clause-made : goal.returns-in-Ok-clause-made
 returns-in-Ok-clause-made c = record {

@@ -2,7 +2,7 @@ use Rattle.std.proofs.Common.{◌<◌, ◌∙◌, ap, subst, option_map, length,
 use Rattle.std.proofs.Math.ListN.{set}
 use Rattle.std.proofs.lemmas.List.Edits.{map_over_more}
 use Rattle.dm_node.specs.Emptying.{set_back}
-use Rattle.dm_node.proofs.emptying.set_back_each.Goals as goal
+use Rattle.dm_node.proofs.emptying.set_back_peers.Goals as goal
 
 pub loop-peer-preserved : goal.loop-peer-preserved
 loop-peer-preserved c =

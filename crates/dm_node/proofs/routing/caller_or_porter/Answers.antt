@@ -3,7 +3,7 @@ use Rattle.std.proofs.Common.{ℕ}
 use Rattle.dm_node.specs.Telling.{IsPorter, IsFirstFor}
 use Rattle.dm_node.proofs.Concerned.{for_nobody}
 use Rattle.dm_node.proofs.Welcomed.{if_none}
-use Rattle.dm_node.proofs.routing.first_for.Goals as goal
+use Rattle.dm_node.proofs.routing.caller_or_porter.Goals as goal
 
 pub returns-in-None-clause-none : goal.returns-in-None-clause-none
 returns-in-None-clause-none g c =

@@ -3,7 +3,7 @@ use Rattle.std.proofs.Common.{ℕ, subst}
 use Rattle.dm_node.specs.Telling.{Concerns}
 use Rattle.dm_node.specs.declared.events.NodeEvent.{NodeEvent}
 use Rattle.dm_node.proofs.Welcomed.{nothing_told}
-use Rattle.dm_node.proofs.unknown.at_unknown.Goals as goal
+use Rattle.dm_node.proofs.unknown.stranger_actions.Goals as goal
 
 pub welcome_or_turn_away-requires : goal.welcome_or_turn_away-requires
 welcome_or_turn_away-requires g c =

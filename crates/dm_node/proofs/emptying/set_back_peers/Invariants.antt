@@ -1,6 +1,6 @@
 use Rattle.std.proofs.Common.{◌≡◌, ◌++◌, map, option_map, take, drop}
 use Rattle.dm_node.specs.Emptying.{set_back}
-use Rattle.dm_node.proofs.emptying.set_back_each.Given as goal
+use Rattle.dm_node.proofs.emptying.set_back_peers.Given as goal
 
 abbrev pub invariant-loop-peer : goal.invariant-loop-peer
 invariant-loop-peer l =
