@@ -1,4 +1,4 @@
-//! The names of the states.
+//! The states.
 
 /// A state of the peer state machine (RFC 6733, 5.6).
 #[derive(Clone, Copy, Debug, PartialEq, Eq)]
@@ -19,4 +19,33 @@ pub enum State {
     IOpen,
     /// A DPR is sent or answered, and the end awaited.
     Closing,
+}
+
+impl State {
+    ghost use Rattle.std.specs.Prelude.{◌≡◌};
+    ghost use Rattle.dm_machine.specs.Awaiting.{holds_cer};
+    ghost use Rattle.dm_machine.specs.Moves.{is_open};
+
+    /// Whether a peer in this state is open: R-Open or I-Open.
+    #[inline(always)]
+    pub fn is_open(self) -> bool
+        ensures { result ≡ is_open self }
+    {
+        match self {
+            State::ROpen | State::IOpen => true,
+            _ => false,
+        }
+    }
+
+    /// Whether a CER waits for its CEA in this state, in an election (RFC 6733, 5.6.4): Wait-Conn-Ack/Elect or
+    /// Wait-Returns.
+    #[inline(always)]
+    pub fn holds_cer(self) -> bool
+        ensures { result ≡ holds_cer self }
+    {
+        match self {
+            State::WaitConnAckElect | State::WaitReturns => true,
+            _ => false,
+        }
+    }
 }

@@ -1,12 +1,11 @@
 //! What the commands of a step send, and what was heard, as far as the numbers of a peer go by it.
 ghost use Rattle.std.specs.Prelude.{◌≡◌};
-ghost use Rattle.dm_machine.specs.Moves.{is_open};
 ghost use Rattle.dm_peer.specs.Lent.{heard_by};
 ghost use Rattle.dm_peer.specs.Said.{word_heard, header_heard};
 ghost use Rattle.dm_peer.specs.After.{request_of, request_in};
 
 use crate::reading::HeardRef;
-use dm_machine::{Command, State, Word};
+use dm_machine::{Command, Word};
 use dm_wire::Header;
 
 /// A request that takes a number.
@@ -41,16 +40,6 @@ pub(crate) fn request_in(commands: &[Command]) -> Option<Request>
         left = rest;
     }
     None
-}
-
-/// Whether the state is R-Open or I-Open.
-pub(crate) fn is_open(state: State) -> bool
-    ensures { result ≡ is_open state }
-{
-    match state {
-        State::ROpen | State::IOpen => true,
-        _ => false,
-    }
 }
 
 /// The word of what was heard.

@@ -1,13 +1,13 @@
 //! Where a step leaves a peer: its numbers, and what it waits for.
 ghost use Rattle.std.specs.Prelude.{◌≡◌, Option};
-ghost use Rattle.dm_machine.specs.Awaiting.{awaits_cea, awaits_dwa, awaits_dpa, holds_cer, number_after, waiting_after};
+ghost use Rattle.dm_machine.specs.Awaiting.{awaits_cea, awaits_dwa, awaits_dpa, number_after, waiting_after};
 ghost use Rattle.dm_peer.specs.Acts.{Moved, acts, standing_at};
 ghost use Rattle.dm_peer.specs.After.{next_after, is_cer, is_dwr, is_dpr, dwa_left, standing_after};
 ghost use Rattle.dm_peer.specs.Events.{event_told};
 ghost use Rattle.dm_peer.specs.Lent.{heard_by};
 ghost use Rattle.dm_peer.specs.Said.{Heard, word_heard};
 
-use crate::commands::{Request, header_heard, is_open, word_heard};
+use crate::commands::{Request, header_heard, word_heard};
 use crate::keeping::kept_after;
 use crate::reading::HeardRef;
 use crate::standing::{Awaited, Standing};
@@ -54,7 +54,7 @@ fn dwa_left(before: State, word: Word, old: Option<u32>) -> Option<u32>
     ensures { (h : Option Heard) → word_heard h ≡ word → result ≡ dwa_left before h old }
 {
     match word {
-        Word::Dwa => if is_open(before) { None } else { old },
+        Word::Dwa => if before.is_open() { None } else { old },
         _ => old,
     }
 }
@@ -93,16 +93,6 @@ fn dpa_after(sent: Option<Request>, state: State, standing: &Standing) -> Option
     number_after(awaits, sends, standing.next, standing.awaited.dpa)
 }
 
-/// Whether a CER waits for its CEA in the state.
-fn holds_cer(state: State) -> bool
-    ensures { result ≡ holds_cer state }
-{
-    match state {
-        State::WaitConnAckElect | State::WaitReturns => true,
-        _ => false,
-    }
-}
-
 /// The header that waits: kept on entering the states in which it does, and while they last.
 fn waiting_after(
     before: State,
@@ -112,10 +102,10 @@ fn waiting_after(
 ) -> Option<Header>
     ensures { result ≡ waiting_after before heard after old }
 {
-    if !holds_cer(after) {
+    if !after.holds_cer() {
         return None;
     }
-    if holds_cer(before) { old } else { heard }
+    if before.holds_cer() { old } else { heard }
 }
 
 /// Where the peer stands after a step that sends this request or none, and leads to this core.

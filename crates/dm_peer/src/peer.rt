@@ -17,7 +17,6 @@ ghost use Rattle.dm_peer.specs.declared.fault.PeerFault.{PeerFault};
 ghost use Rattle.dm_peer.specs.declared.fault.PeerFault.TheVariants.{NoMemory};
 
 use crate::arrivals::is_on;
-use crate::commands::is_open;
 use crate::keeping::kept_answer;
 use crate::laws::{refusals_go_by_rule, silent_takes_none};
 use crate::standing::Kept;
@@ -171,7 +170,7 @@ impl Peer {
     pub fn is_open(&self) -> bool
         ensures { result ≡ moves.is_open self.now.standing.core.state }
     {
-        is_open(self.state())
+        self.state().is_open()
     }
 
     /// The Hop-by-Hop Identifier of the last request of the command, 257, 280 or 282, that awaits its answer. None for

@@ -3,8 +3,6 @@ ghost use Rattle.std.specs.Prelude.{◌≡◌, None};
 ghost use Rattle.std.specs.Option.{MatchOption};
 ghost use Rattle.dm_wire.specs.declared.message.Message.{Message};
 ghost use Rattle.dm_base.specs.Senders.{HasAvps};
-ghost use Rattle.dm_machine.specs.Awaiting.{holds_cer};
-ghost use Rattle.dm_machine.specs.Moves.{is_open};
 ghost use Rattle.dm_slots.specs.Acquaintances.{exchange_in, is_exchange_to};
 
 use dm_base::SenderRef;
@@ -13,26 +11,6 @@ use dm_peer::{Peer, read_message};
 use dm_wire::Octets;
 use std::alloc::Global;
 use std::marker::Model;
-
-/// Whether a peer in this state is open.
-fn is_open_state(state: State) -> bool
-    ensures { result ≡ is_open state }
-{
-    match state {
-        State::ROpen | State::IOpen => true,
-        _ => false,
-    }
-}
-
-/// Whether a CER waits for its CEA in this state, in an election (RFC 6733, 5.6.4).
-fn is_in_election(state: State) -> bool
-    ensures { result ≡ holds_cer state }
-{
-    match state {
-        State::WaitConnAckElect | State::WaitReturns => true,
-        _ => false,
-    }
-}
 
 /// The CER or CEA that the octets spell, as what it says of its sender. It never answers want of memory.
 fn exchange_in(octets: &[u8]) -> Option<SenderRef<'_>>
@@ -49,7 +27,7 @@ fn exchange_in(octets: &[u8]) -> Option<SenderRef<'_>>
 pub fn is_exchange(state: State, octets: &[u8]) -> bool
     ensures { result ≡ is_exchange_to state octets.now }
 {
-    !is_open_state(state) && exchange_in(octets).is_some()
+    !state.is_open() && exchange_in(octets).is_some()
 }
 
 /// What the other side said of itself: the CER or CEA by which a peer was opened, of the last time that it was. It
@@ -165,7 +143,7 @@ impl Acquaintance {
     {
         if peer.is_open() {
             self.meet_opening(exchange, conn, peer);
-        } else if !is_in_election(before) && is_in_election(peer.state()) {
+        } else if !before.holds_cer() && peer.state().holds_cer() {
             self.set_waiting(exchange);
         }
     }
@@ -176,7 +154,7 @@ impl Acquaintance {
     pub fn meet_after(&mut self, before: State, peer: &Peer)
         ensures { self.new ≡ known_after before peer.now self.old }
     {
-        if !is_open_state(before) && peer.is_open() {
+        if !before.is_open() && peer.is_open() {
             self.meet_waiting();
         }
     }
