@@ -32,12 +32,13 @@ use Rattle.dm_peer.specs.declared.config.Config.{Config}
 use Rattle.dm_peer.specs.declared.peer.Peer.{Peer}
 use Rattle.dm_peer.specs.Events.{PeerEvent, Arrived}
 use Rattle.dm_slots.specs.Acquaintances.{Acquaintance, nobody, exchange_of, spells_exchange, is_exchange_to}
-use Rattle.dm_slots.specs.Acquaintances.{known_by, known_after, known_at, known_if_any}
+use Rattle.dm_slots.specs.Acquaintances.{met_waiting, known_by, known_after, known_at, known_if_any}
 use Rattle.dm_node.specs.NodeKnown.{AreKnown, acquaintance_at, with_nobody, with_known, given_place, peer_state, MeetsAny, IsCopied}
 use Rattle.dm_node.specs.NodeKnown.{KnownAfterOrder}
 use Rattle.dm_node.specs.NodeOrders.{ShutsUnheld}
 use Rattle.dm_node.specs.Neighbourhoods.{IsNeighbourhood}
 use Rattle.dm_node.specs.NodeStates.{NodeState, NodeAnswer, concerned_in}
+use Rattle.dm_node.proofs.Basics.{two_truths}
 use Rattle.dm_node.proofs.Concerned.{one_is_concerned}
 use Rattle.dm_node.proofs.Newcomers.{peers_stay}
 use Rattle.dm_node.proofs.NodeMoving.{unlike}
@@ -306,6 +307,54 @@ is_copied policy c octets ps before looked is =
       exchange = parts.1;
       unopened = λ i concerned. sym (ap is_open (looked.told i concerned)) ∙ not-true (is_open before) parts.0;
     }
+
+-- An open neighbour meets nobody anew.
+
+mapped_so : {A : Type 0} (f : A → A) (x : Option A) → ((a : A) → f a ≡ a) → option_map f x ≡ x
+mapped_so f None same = refl
+mapped_so f (Some x) same = ap Some (same x)
+
+stays_at : {A : Type 0} (f : A → A) (l : List (Option A)) (i : ℕ) → ((a : A) → f a ≡ a) →
+    set l i (option_map f (option_flatten (slice_get l i))) ≡ l
+stays_at f [] i same = refl
+stays_at f (x ∷ xs) zero same = ap (λ y. y ∷ xs) (mapped_so f x same)
+stays_at f (x ∷ xs) (suc i) same = ap (λ l. x ∷ l) (stays_at f xs i same)
+
+known_so : (before : State) (q : Peer) (a : Acquaintance) → is_open before ≡ true → known_after before q a ≡ a
+known_so before q a stood = ap (λ b. cond (not b && is_open q.standing.core.state) (met_waiting a.waiting a) a) stood
+
+pub open_stays_after : (before : State) (q : Peer) (i : ℕ) (ks : List (Option Acquaintance)) → is_open before ≡ true →
+    ks ≡ with_known i (known_after before q) ks
+open_stays_after before q i ks stood = sym (stays_at (known_after before q) ks i (λ a. known_so before q a stood))
+
+pub open_stays : (exchange : List ℕ) (c : Conn) (before : State) (q : Peer) (i : ℕ) (ks : List (Option Acquaintance)) →
+    is_open before ≡ true → exchange ≡ [] → nat_lt i (length ks) ≡ true →
+    ks ≡ with_known i (known_if_any exchange c before q) (given_place i ks)
+open_stays exchange c before q i ks stood none there =
+    sym (ap (λ b. with_known i (known_if_any exchange c before q) (cond b ks (with_nobody ks))) there
+    ∙ stays_at (known_if_any exchange c before q) ks i
+    (λ a. ap (λ m. known_if_any m c before q a) none ∙ known_so before q a stood))
+
+-- of what it is told nothing is copied
+pub open_copies_none : (octets exchange : List ℕ) (before : State) →
+    exchange ≡ cond (is_exchange_to before octets) octets [] → is_open before ≡ true → exchange ≡ []
+open_copies_none octets exchange before is stood =
+    is ∙ ap (λ b. cond (not b && spells_exchange octets) octets []) stood
+
+-- and its place is there
+pub open_has_place : (policy : Policy) (c : Conn) (octets : List ℕ) (n : Node) (ps qs : List (Option Peer))
+    (who : Option ℕ) (actions : List Action) (ks : List (Option Acquaintance)) (before : State) (i : ℕ) →
+    AreKnown ps ks → IsStateOf (IsAddressed policy ps c octets) ps before →
+    NodeMoves policy c octets n ps who actions qs → who ≡ Some i → is_open before ≡ true → nat_lt i (length ks) ≡ true
+open_has_place policy c octets n ps qs who actions ks before i there looked moved is stood =
+    by (nat_lt i (length ks)) refl
+  where
+    by : (b : Bool) → nat_lt i (length ks) ≡ b → b ≡ true
+    by true e = refl
+    by false e =
+        let copied = room_for policy c octets n ps qs who actions ks before i there looked moved is e in
+        absurd (two_truths (is_open before) stood
+        (not-true (is_open before) (and_parts (not (is_open before)) (spells_exchange octets) copied).0))
 
 -- no octets are nobody's CER
 calls_none : caller_of [] ≡ None

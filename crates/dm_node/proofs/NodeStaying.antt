@@ -1,16 +1,22 @@
 -- Each connection that a neighbour holds is there, whatever is done.
-use Rattle.std.proofs.Common.{◌≡◌, ℕ, Bool, true, false, nat_eq, is_some, Option, None, Some, Result, Ok, Err, OnOk, OnErr, List, refl, sym, ap, ◌∙◌, subst}
+use Rattle.std.proofs.Common.{◌≡◌, ℕ, Bool, true, false, true≢false, cond, nat_eq, is_some, Option, None, Some, Result, Ok, Err, OnOk, OnErr, List, refl, sym, ap, ◌∙◌, subst}
 use Rattle.std.proofs.lemmas.Bool.{eqb-true}
 use Rattle.dm_machine.specs.declared.connection.Conn.{Conn}
-use Rattle.dm_node.specs.Holding.{holds_at}
+use Rattle.dm_machine.specs.declared.state_name.State.{State}
+use Rattle.dm_machine.specs.Moves.{is_open}
+use Rattle.dm_node.specs.Holding.{holds_at, holds_it}
 use Rattle.dm_node.specs.Telling.{IsFree}
 use Rattle.dm_peer.specs.declared.actions.Action.{Action}
 use Rattle.dm_peer.specs.declared.peer.Peer.{Peer}
 use Rattle.dm_slots.specs.Intakes.{Intake, Intakes, is_there, opened, taken_down, changed, with_intake, actions_close, left_by}
+use Rattle.dm_slots.specs.Intakes.{raised_at}
+use Rattle.dm_slots.specs.Raised.{own_of}
 use Rattle.dm_peer.specs.Events.{PeerEvent, Arrived, Start}
 use Rattle.dm_slots.specs.Naming.{NamesThere, NamesAtMost}
 use Rattle.dm_slots.specs.Staying.{OpeningKeeps, ChangingKeeps, TellingKeeps, RaisingKeeps, ClosingKeeps, ShuttingKeeps}
 use Rattle.dm_node.specs.NodeHeld.{AllHeldAreThere}
+use Rattle.dm_node.specs.NodeKnown.{peer_state}
+use Rattle.dm_node.specs.Owning.{initiated_of, accepted_of}
 use Rattle.dm_node.specs.NodeStates.{NodeState, concerned_in, raised_for, node_settled, with_node_intakes}
 use Rattle.dm_node.specs.NodeOrders.{node_opened}
 use Rattle.dm_node.proofs.Basics.{two_truths}
@@ -49,6 +55,23 @@ held_left closing raising ps actions most p f there free i c held =
       by : (b : Bool) → actions_close actions c.0 ≡ b → is_there c.0 (left_by actions f) ≡ true
       by true e = absurd (two_truths (holds_at ps c i) held (free c e i))
       by false e = ap is_some (closing actions c.0 f e) ∙ there i c held
+
+-- what a neighbour holds is there
+pub concerned_there : (ps : List (Option Peer)) (f : Intakes) (who : Option ℕ) (c : Conn) → AllHeldAreThere ps f →
+    holds_it c (concerned_in ps who) ≡ true → is_there c.0 f ≡ true
+concerned_there ps f None c there held = absurd (true≢false (sym held))
+concerned_there ps f (Some i) c there held = there i c held
+
+-- what it holds takes longer messages where it is stood, by what it is at a time
+pub raised_so : (o : Option Peer) (state : State) (own other : Option Conn) (is : Bool) (most : ℕ) (f : Intakes) →
+    is ≡ is_open state → state ≡ peer_state o → own ≡ initiated_of o → other ≡ accepted_of o →
+    cond is (raised_at most other (raised_at most own f)) f ≡ raised_for most o f
+raised_so None state own other is most f stood at first second =
+    ap (λ b. cond b (raised_at most other (raised_at most own f)) f) (stood ∙ ap is_open at)
+raised_so (Some p) state own other is most f stood at first second =
+    ap (λ b. cond b (raised_at most other (raised_at most own f)) f) (stood ∙ ap is_open at)
+    ∙ ap (λ a. cond (is_open p.standing.core.state) (raised_at most other (raised_at most a f)) f) first
+    ∙ ap (λ b. cond (is_open p.standing.core.state) (raised_at most b (raised_at most (own_of p) f)) f) second
 
 -- a connection that isn't there isn't held
 pub none_holds : (ps : List (Option Peer)) (f : Intakes) (c : Conn) → AllHeldAreThere ps f → is_there c.0 f ≡ false →

@@ -4,8 +4,18 @@ use Rattle.dm_machine.specs.declared.connection.Conn.{Conn}
 use Rattle.dm_peer.specs.declared.peer.Peer.{Peer}
 use Rattle.dm_peer.specs.Places.{is_on}
 use Rattle.dm_slots.specs.Held.{Owners}
+use Rattle.dm_slots.specs.Raised.{own_of, other_of}
 use Rattle.dm_node.specs.declared.owners.Holding.{Holding}
 use Rattle.dm_node.specs.Holding.{peer_at, holds_at}
+
+-- the connections that a neighbour initiated and accepted, where there is one
+abbrev pub initiated_of : Option Peer → Option Conn
+initiated_of None = None
+initiated_of (Some p) = own_of p
+
+abbrev pub accepted_of : Option Peer → Option Conn
+accepted_of None = None
+accepted_of (Some p) = other_of p
 
 -- the connection is one of those that a peer holds
 abbrev pub has : Holding → Conn → Bool

@@ -1,5 +1,6 @@
 //! Whom the neighbours of a node meet by what they are told.
 ghost use Rattle.std.specs.Prelude.{◌≡◌, ℕ, true, false, cond, nat_lt, length, [], None, Some, IfOk, OnOk, OnErr};
+ghost use Rattle.dm_machine.specs.Moves.{is_open};
 ghost use Rattle.dm_node.specs.Holding.{peer_at};
 ghost use Rattle.dm_node.specs.NodeKnown.{known_of, HasSparePlace, with_known, given_place};
 ghost use Rattle.dm_peer.specs.declared.peer.Peer.{Peer as OnePeer};
@@ -34,7 +35,8 @@ pub(crate) fn copy_exchange(
     }
 }
 
-/// What is known behind what came on the connection, of the neighbour of the number that was told it, if one was.
+/// What is known behind what came on the connection, of the neighbour of the number that was told it, if one was. Of
+/// one that was open it stays.
 pub(crate) fn meet_behind(
     neighbours: &Neighbours,
     known: &mut Acquaintances,
@@ -43,11 +45,16 @@ pub(crate) fn meet_behind(
     conn: Conn,
     before: State,
 )
-    requires { (i : ℕ) → who ≡ Some i → nat_lt i (length (known_of known.old)) ≡ false → HasSparePlace known.old }
+    requires room { (i : ℕ) → who ≡ Some i → nat_lt i (length (known_of known.old)) ≡ false → HasSparePlace known.old }
+    requires there { (i : ℕ) → who ≡ Some i → is_open before ≡ true → nat_lt i (length (known_of known.old)) ≡ true }
+    requires copied { is_open before ≡ true → exchange ≡ [] }
     ensures met { (i : ℕ) (q : OnePeer) → who ≡ Some i → peer_at neighbours.now i ≡ Some q → known_of known.new
         ≡ with_known i (known_if_any exchange conn before q) (given_place i (known_of known.old)) }
     ensures unmet { who ≡ None → known_of known.new ≡ known_of known.old }
 {
+    if before.is_open() {
+        return;
+    }
     if let Some(index) = who {
         known.give_place(index);
         if let Some(peer) = neighbours.peer(index) {
@@ -57,6 +64,7 @@ pub(crate) fn meet_behind(
 }
 
 /// What is known behind an event that brought no message, of the neighbour of the number that was told it, if one was.
+/// Of one that was open it stays.
 pub(crate) fn meet_after(
     neighbours: &Neighbours,
     known: &mut Acquaintances,
@@ -67,9 +75,11 @@ pub(crate) fn meet_after(
         ≡ with_known i (known_after before q) (known_of known.old) }
     ensures unmet { who ≡ None → known_of known.new ≡ known_of known.old }
 {
-    if let Some(index) = who {
-        if let Some(peer) = neighbours.peer(index) {
-            known.meet_after(index, before, peer);
+    if !before.is_open() {
+        if let Some(index) = who {
+            if let Some(peer) = neighbours.peer(index) {
+                known.meet_after(index, before, peer);
+            }
         }
     }
 }

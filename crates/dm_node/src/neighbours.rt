@@ -8,7 +8,7 @@ use crate::counting::{count_added, count_removed};
 use crate::emptying::{set_back_one, set_back_peers, take_out};
 use crate::hosts::Hosts;
 use crate::looking::peer_at;
-use crate::owners::{Before, Holding, any_holding};
+use crate::owners::{Holding, Snapshot, any_holding};
 use dm_peer::laws::{each_event_keeps_settled, each_send_is_spelled, every_peer_is_kept};
 use dm_peer::{Config, Conn, Peer, State};
 use std::alloc::Global;
@@ -52,7 +52,7 @@ impl Neighbours {
     ghost use Rattle.dm_node.specs.NodeKnown.{peer_state};
     ghost use Rattle.dm_node.specs.NodeStates.{concerned_in};
     ghost use Rattle.dm_node.specs.NodeOrders.{close_if_any, closes_of_any};
-    ghost use Rattle.dm_node.specs.Owning.{has};
+    ghost use Rattle.dm_node.specs.Owning.{has, initiated_of, accepted_of};
     ghost use Rattle.dm_node.specs.Strangers.{present};
     ghost use Rattle.dm_node.specs.declared.fault.AddFault.TheVariants.{Known, NoMemory};
 
@@ -168,18 +168,20 @@ impl Neighbours {
 
     /// What the neighbour is whose an event is; Closed, with nothing held, where it is of none. It never answers want
     /// of memory.
-    pub(crate) fn standing(&self, who: Option<usize>) -> Before
+    pub(crate) fn snapshot(&self, who: Option<usize>) -> Snapshot
         ensures state { result.state ≡ peer_state (concerned_in self.now who) }
         ensures held { (c : Conn) → has result.held c ≡ holds_it c (concerned_in self.now who) }
+        ensures initiated { result.held.initiated ≡ initiated_of (concerned_in self.now who) }
+        ensures accepted { result.held.accepted ≡ accepted_of (concerned_in self.now who) }
     {
         let peer = self.concerned(who);
         let held = any_holding(peer);
         match peer {
-            Some(peer) => Before {
+            Some(peer) => Snapshot {
                 state: peer.state(),
                 held,
             },
-            None => Before {
+            None => Snapshot {
                 state: State::Closed,
                 held,
             },

@@ -2,16 +2,15 @@
 ghost use Rattle.std.specs.Prelude.{◌≡◌, ◌++◌, true, List, Option};
 ghost use Rattle.dm_machine.specs.declared.connection.Conn.{Conn};
 ghost use Rattle.std.specs.Option.{option_copied};
-ghost use Rattle.dm_node.specs.Holding.{holds, holds_it};
+ghost use Rattle.dm_node.specs.Holding.{holds, holds_it, AreApart};
 ghost use Rattle.dm_node.specs.NodeOrders.{close_if_any, closes_of_any};
-ghost use Rattle.dm_node.specs.NodeHeld.{AllHeldAreThere};
-ghost use Rattle.dm_node.specs.Owning.{has, owned_after, AreOwned, IsReowned};
+ghost use Rattle.dm_node.specs.NodeStates.{concerned_in};
+ghost use Rattle.dm_node.specs.Owning.{has, initiated_of, accepted_of, owned_after, AreOwned, IsReowned};
 ghost use Rattle.dm_slots.specs.Held.{intakes_of, owners_of};
 ghost use Rattle.dm_slots.specs.Intakes.{is_there};
 ghost use Rattle.dm_peer.specs.declared.peer.Peer.{Peer};
 ghost use Rattle.dm_slots.specs.Raised.{own_of, other_of};
 
-use crate::neighbours::{Neighbours, neighbours_are_sound};
 use dm_machine::laws::each_node_has_its_form;
 use dm_peer::{Conn, Peer, State};
 use dm_slots::Slots;
@@ -23,9 +22,9 @@ pub(crate) struct Holding {
     pub(crate) accepted: Option<Conn>,
 }
 
-/// What a neighbour was before an event: its state, and what it held.
+/// What a neighbour is at a time: its state, and what it holds.
 #[derive(Clone, Copy)]
-pub(crate) struct Before {
+pub(crate) struct Snapshot {
     pub(crate) state: State,
     pub(crate) held: Holding,
 }
@@ -67,6 +66,8 @@ pub(crate) fn any_holding(peer: Option<&Peer>) -> Holding
     ensures holds { (c : Conn) → has result c ≡ holds_it c (option_copied peer.entry) }
     ensures closes { close_if_any result.initiated ++ close_if_any result.accepted
         ≡ closes_of_any (option_copied peer.entry) }
+    ensures initiated { result.initiated ≡ initiated_of (option_copied peer.entry) }
+    ensures accepted { result.accepted ≡ accepted_of (option_copied peer.entry) }
 {
     match peer {
         Some(peer) => peer_holding(peer),
@@ -89,17 +90,16 @@ fn change_owners(slots: &mut Slots, before: Holding, after: Holding, index: usiz
     slots.own(after.accepted, index);
 }
 
-/// The neighbour of the number, if one was told something, holds what it holds now, and held this before.
+/// The neighbour of the number, if one was told something, held this before, and holds this now.
 #[inline(always)]
-pub(crate) fn reown(neighbours: &Neighbours, slots: &mut Slots, before: Holding, who: Option<usize>)
-    requires there { AllHeldAreThere neighbours.now (intakes_of slots.old) }
+pub(crate) fn reown(slots: &mut Slots, before: Holding, after: Holding, who: Option<usize>)
+    requires there { (c : Conn) → has after c ≡ true → is_there c.0 (intakes_of slots.old) ≡ true }
     ensures intakes { intakes_of slots.new ≡ intakes_of slots.old }
-    ensures owned { (ps : List (Option Peer)) → IsReowned ps neighbours.now who before
-        → AreOwned (owners_of slots.old) ps → AreOwned (owners_of slots.new) neighbours.now }
+    ensures owned { (ps qs : List (Option Peer)) → AreApart qs
+        → ((c : Conn) → has after c ≡ holds_it c (concerned_in qs who)) → IsReowned ps qs who before
+        → AreOwned (owners_of slots.old) ps → AreOwned (owners_of slots.new) qs }
 {
-    neighbours_are_sound(neighbours);
     if let Some(index) = who {
-        let after = neighbours.holding(index);
         if !is_unchanged(before, after) {
             change_owners(slots, before, after, index);
         }

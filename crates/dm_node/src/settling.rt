@@ -8,35 +8,12 @@ ghost use Rattle.dm_node.specs.Telling.{IsFree};
 ghost use Rattle.dm_peer.specs.declared.peer.Peer.{Peer};
 ghost use Rattle.dm_slots.specs.Held.{intakes_of, owners_of};
 ghost use Rattle.dm_slots.specs.Intakes.{actions_close, left_by};
-ghost use Rattle.dm_slots.specs.Raised.{raised};
 
 use crate::Answer;
-use crate::neighbours::Neighbours;
+use crate::neighbours::{Neighbours, neighbours_are_sound};
 use crate::owners::{Holding, reown};
-use dm_peer::Peer;
 use dm_slots::Slots;
 use dm_slots::laws::what_is_there_stays;
-
-/// What the peer holds, where it is open, takes messages of at most `most` octets.
-fn raise_if_open(peer: &Peer, slots: &mut Slots, most: u32)
-    ensures owners { owners_of slots.new ≡ owners_of slots.old }
-    ensures raised { intakes_of slots.new ≡ raised most peer.now (intakes_of slots.old) }
-{
-    let own = peer.initiated();
-    let other = peer.accepted();
-    slots.raise_open(peer.is_open(), own, other, most);
-}
-
-/// What the neighbour of the number holds, where there is one and it is open, takes messages of at most `most` octets.
-fn raise_concerned(neighbours: &Neighbours, slots: &mut Slots, index: Option<usize>, most: u32)
-    ensures owners { owners_of slots.new ≡ owners_of slots.old }
-    ensures raised { intakes_of slots.new
-        ≡ raised_for most (concerned_in neighbours.now index) (intakes_of slots.old) }
-{
-    if let Some(peer) = neighbours.concerned(index) {
-        raise_if_open(peer, slots, most);
-    }
-}
 
 /// Behind an event that was told: its neighbour, if it is of one, holds what it holds now, and held this before; what
 /// the answer closes is no more there; and what the neighbour holds takes messages of at most `most` octets where it
@@ -58,7 +35,14 @@ pub(crate) fn settle(
         → AreOwned (owners_of slots.old) ps → AreOwned (owners_of slots.new) neighbours.now }
 {
     what_is_there_stays();
-    reown(neighbours, slots, before, answer.neighbour);
+    neighbours_are_sound(neighbours);
+    let after = neighbours.snapshot(answer.neighbour);
+    reown(slots, before, after.held, answer.neighbour);
     slots.leave(answer.actions.as_slice());
-    raise_concerned(neighbours, slots, answer.neighbour, most);
+    slots.raise_open(
+        after.state.is_open(),
+        after.held.initiated,
+        after.held.accepted,
+        most,
+    );
 }

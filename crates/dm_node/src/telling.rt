@@ -143,7 +143,7 @@ pub(crate) fn tell_message<S: Strangers>(
         Ok(who) => who,
         Err(_) => unreachable!(),
     };
-    let before = neighbours.standing(who);
+    let before = neighbours.snapshot(who);
     let exchange = match copy_exchange(alloc, known, before.state, octets) {
         Ok(exchange) => exchange,
         Err(error) => return Err(error),
@@ -208,7 +208,7 @@ pub(crate) fn tell_event<S: Strangers>(
         Ok(who) => who,
         Err(fault) => return Err(fault),
     };
-    let before = neighbours.standing(who);
+    let before = neighbours.snapshot(who);
     match tell_neighbours(alloc, own, neighbours, strangers, who, event, answer) {
         Ok(()) => {
             meet_after(neighbours, known, answer.neighbour, before.state);

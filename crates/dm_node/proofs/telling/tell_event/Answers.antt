@@ -14,10 +14,10 @@ returns-in-Ok-tell_neighbours-clause-met g c =
     let ps = c.args.neighbours.now in
     let looked = state_looked policy ps c.args.event c.in-Ok.who _
     c.neighbours_are_sound.ensures.apart c.in-Ok.ensures.concerned c.in-Ok.ensures.nobody
-    c.standing-before.ensures.state in
+    c.snapshot-before.ensures.state in
     meets_after policy c.args.event c.args.own.now ps c.tell_neighbours.new.neighbours
     c.tell_neighbours.new.answer.neighbour c.tell_neighbours.new.answer.actions.items (known_of c.args.known.now)
-    (known_of c.meet_after.new.known) c.standing-before.result.state c.requires.calm looked c.requires.places
+    (known_of c.meet_after.new.known) c.snapshot-before.result.state c.requires.calm looked c.requires.places
     c.in-Ok-tell_neighbours.ensures.told c.meet_after.ensures.met c.meet_after.ensures.unmet
 
 pub returns-in-Ok-tell_neighbours-clause-places : goal.returns-in-Ok-tell_neighbours-clause-places
@@ -26,13 +26,13 @@ returns-in-Ok-tell_neighbours-clause-places g c =
     let ps = c.args.neighbours.now in
     let looked = state_looked policy ps c.args.event c.in-Ok.who _
     c.neighbours_are_sound.ensures.apart c.in-Ok.ensures.concerned c.in-Ok.ensures.nobody
-    c.standing-before.ensures.state in
+    c.snapshot-before.ensures.state in
     known_told known_after policy c.args.event c.args.own.now ps c.tell_neighbours.new.neighbours
     c.tell_neighbours.new.answer.neighbour c.tell_neighbours.new.answer.actions.items (known_of c.args.known.now)
     (known_of c.meet_after.new.known) c.requires.calm c.requires.places c.in-Ok-tell_neighbours.ensures.told
     (meets_after policy c.args.event c.args.own.now ps c.tell_neighbours.new.neighbours
     c.tell_neighbours.new.answer.neighbour c.tell_neighbours.new.answer.actions.items (known_of c.args.known.now)
-    (known_of c.meet_after.new.known) c.standing-before.result.state c.requires.calm looked c.requires.places
+    (known_of c.meet_after.new.known) c.snapshot-before.result.state c.requires.calm looked c.requires.places
     c.in-Ok-tell_neighbours.ensures.told c.meet_after.ensures.met c.meet_after.ensures.unmet)
 
 pub returns-in-Err-tell_neighbours-clause-wants : goal.returns-in-Err-tell_neighbours-clause-wants
@@ -47,14 +47,14 @@ returns-in-Ok-tell_neighbours-clause-before g c =
     let ps = c.args.neighbours.now in
     let looked = held_looked policy ps c.args.event c.in-Ok.who _
     c.neighbours_are_sound.ensures.apart c.in-Ok.ensures.concerned c.in-Ok.ensures.nobody
-    c.standing-before.ensures.held in
+    c.snapshot-before.ensures.held in
     reowned_told policy c.args.event c.args.own.now ps c.tell_neighbours.new.neighbours
-    c.tell_neighbours.new.answer.neighbour c.tell_neighbours.new.answer.actions.items c.standing-before.result.held
+    c.tell_neighbours.new.answer.neighbour c.tell_neighbours.new.answer.actions.items c.snapshot-before.result.held
     c.requires.calm looked c.in-Ok-tell_neighbours.ensures.told
 
 pub returns-in-Ok-tell_neighbours-clause-rules : goal.returns-in-Ok-tell_neighbours-clause-rules
 returns-in-Ok-tell_neighbours-clause-rules g c =
-    done_goes (g.S.Strangers.policy c.args.strangers.now) c.args.neighbours.now c.args.event c.standing-before.result.held
+    done_goes (g.S.Strangers.policy c.args.strangers.now) c.args.neighbours.now c.args.event c.snapshot-before.result.held
     _ c.tell_neighbours.result c.in-Ok-tell_neighbours.is
     (λ f wrong. not_done c.in-Ok.who f c.concerned_neighbour.result c.in-Ok.is (c.concerned_neighbour.ensures.misdirected f wrong))
     c.tell_neighbours.ensures.rules

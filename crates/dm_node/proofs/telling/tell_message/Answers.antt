@@ -4,7 +4,7 @@ use Rattle.std.specs.Prelude.{nat_lt}
 use Rattle.dm_node.specs.declared.events.NodeEvent.TheVariants as event
 use Rattle.dm_slots.specs.Acquaintances.{known_at}
 use Rattle.dm_node.specs.NodeKnown.{known_of}
-use Rattle.dm_node.proofs.NodeKnowing.{state_looked, meets, known_moved, room_for, is_copied}
+use Rattle.dm_node.proofs.NodeKnowing.{state_looked, meets, known_moved, room_for, is_copied, open_has_place, open_copies_none}
 use Rattle.dm_node.proofs.Reowned.{held_looked, reowned_moved}
 use Rattle.dm_node.proofs.telling.tell_message.Goals as goal
 
@@ -14,10 +14,10 @@ returns-in-Ok-tell_neighbours-clause-met g c =
     let ps = c.args.neighbours.now in
     let looked = state_looked policy ps (event.Arrived c.args.conn c.args.octets) c.in-Ok.who _
     c.neighbours_are_sound.ensures.apart c.in-Ok.ensures.concerned c.in-Ok.ensures.nobody
-    c.standing-before.ensures.state in
+    c.snapshot-before.ensures.state in
     meets policy c.args.conn c.args.octets.now c.args.own.now ps c.tell_neighbours.new.neighbours
     c.tell_neighbours.new.answer.neighbour c.tell_neighbours.new.answer.actions.items (known_of c.args.known.now)
-    (known_of c.copy_exchange.new.known) (known_of c.meet_behind.new.known) c.standing-before.result.state c.in-Ok-copy_exchange.exchange looked
+    (known_of c.copy_exchange.new.known) (known_of c.meet_behind.new.known) c.snapshot-before.result.state c.in-Ok-copy_exchange.exchange looked
     c.in-Ok-copy_exchange.ensures.copied c.copy_exchange.ensures.same c.in-Ok-tell_neighbours.ensures.told c.meet_behind.ensures.met
     c.meet_behind.ensures.unmet
 
@@ -27,29 +27,46 @@ returns-in-Ok-tell_neighbours-clause-places g c =
     let ps = c.args.neighbours.now in
     let looked = state_looked policy ps (event.Arrived c.args.conn c.args.octets) c.in-Ok.who _
     c.neighbours_are_sound.ensures.apart c.in-Ok.ensures.concerned c.in-Ok.ensures.nobody
-    c.standing-before.ensures.state in
+    c.snapshot-before.ensures.state in
     known_moved (λ state q a. known_at c.args.conn state q c.args.octets.now a) policy c.args.conn c.args.octets.now
     c.args.own.now ps c.tell_neighbours.new.neighbours c.tell_neighbours.new.answer.neighbour
     c.tell_neighbours.new.answer.actions.items (known_of c.args.known.now) (known_of c.meet_behind.new.known) c.requires.places
     c.in-Ok-tell_neighbours.ensures.told
     (meets policy c.args.conn c.args.octets.now c.args.own.now ps c.tell_neighbours.new.neighbours
     c.tell_neighbours.new.answer.neighbour c.tell_neighbours.new.answer.actions.items (known_of c.args.known.now)
-    (known_of c.copy_exchange.new.known) (known_of c.meet_behind.new.known) c.standing-before.result.state c.in-Ok-copy_exchange.exchange looked
+    (known_of c.copy_exchange.new.known) (known_of c.meet_behind.new.known) c.snapshot-before.result.state c.in-Ok-copy_exchange.exchange looked
     c.in-Ok-copy_exchange.ensures.copied c.copy_exchange.ensures.same c.in-Ok-tell_neighbours.ensures.told c.meet_behind.ensures.met
     c.meet_behind.ensures.unmet)
 
-pub meet_behind-requires : goal.meet_behind-requires
-meet_behind-requires g c = λ i is none.
+pub meet_behind-requires-room : goal.meet_behind-requires-room
+meet_behind-requires-room g c = λ i is none.
     let policy = g.S.Strangers.policy c.args.strangers.now in
     let ps = c.args.neighbours.now in
     let looked = state_looked policy ps (event.Arrived c.args.conn c.args.octets) c.in-Ok.who _
     c.neighbours_are_sound.ensures.apart c.in-Ok.ensures.concerned c.in-Ok.ensures.nobody
-    c.standing-before.ensures.state in
+    c.snapshot-before.ensures.state in
     c.in-Ok-copy_exchange.ensures.room
     (room_for policy c.args.conn c.args.octets.now c.args.own.now ps c.tell_neighbours.new.neighbours
     c.tell_neighbours.new.answer.neighbour c.tell_neighbours.new.answer.actions.items (known_of c.args.known.now)
-    c.standing-before.result.state i c.requires.places looked c.in-Ok-tell_neighbours.ensures.told is
+    c.snapshot-before.result.state i c.requires.places looked c.in-Ok-tell_neighbours.ensures.told is
     (ap (λ l. nat_lt i (length l)) (sym c.copy_exchange.ensures.same) ∙ none))
+
+pub meet_behind-requires-there : goal.meet_behind-requires-there
+meet_behind-requires-there g c = λ i is stood.
+    let policy = g.S.Strangers.policy c.args.strangers.now in
+    let ps = c.args.neighbours.now in
+    let looked = state_looked policy ps (event.Arrived c.args.conn c.args.octets) c.in-Ok.who _
+    c.neighbours_are_sound.ensures.apart c.in-Ok.ensures.concerned c.in-Ok.ensures.nobody
+    c.snapshot-before.ensures.state in
+    ap (λ l. nat_lt i (length l)) c.copy_exchange.ensures.same
+    ∙ open_has_place policy c.args.conn c.args.octets.now c.args.own.now ps c.tell_neighbours.new.neighbours
+    c.tell_neighbours.new.answer.neighbour c.tell_neighbours.new.answer.actions.items (known_of c.args.known.now)
+    c.snapshot-before.result.state i c.requires.places looked c.in-Ok-tell_neighbours.ensures.told is stood
+
+pub meet_behind-requires-copied : goal.meet_behind-requires-copied
+meet_behind-requires-copied g c = λ stood.
+    open_copies_none c.args.octets.now c.in-Ok-copy_exchange.exchange c.snapshot-before.result.state
+    c.in-Ok-copy_exchange.ensures.copied stood
 
 pub returns-in-Err-copy_exchange-clause-memory : goal.returns-in-Err-copy_exchange-clause-memory
 returns-in-Err-copy_exchange-clause-memory g c =
@@ -57,8 +74,8 @@ returns-in-Err-copy_exchange-clause-memory g c =
     let ps = c.args.neighbours.now in
     let looked = state_looked policy ps (event.Arrived c.args.conn c.args.octets) c.in-Ok.who _
     c.neighbours_are_sound.ensures.apart c.in-Ok.ensures.concerned c.in-Ok.ensures.nobody
-    c.standing-before.ensures.state in
-    inr (is_copied policy c.args.conn c.args.octets.now ps c.standing-before.result.state looked c.in-Err-copy_exchange.ensures.memory)
+    c.snapshot-before.ensures.state in
+    inr (is_copied policy c.args.conn c.args.octets.now ps c.snapshot-before.result.state looked c.in-Err-copy_exchange.ensures.memory)
 
 pub returns-in-Err-tell_neighbours-clause-memory : goal.returns-in-Err-tell_neighbours-clause-memory
 returns-in-Err-tell_neighbours-clause-memory g c =
@@ -70,7 +87,7 @@ returns-in-Ok-tell_neighbours-clause-before g c =
     let ps = c.args.neighbours.now in
     let looked = held_looked policy ps (event.Arrived c.args.conn c.args.octets) c.in-Ok.who _
     c.neighbours_are_sound.ensures.apart c.in-Ok.ensures.concerned c.in-Ok.ensures.nobody
-    c.standing-before.ensures.held in
+    c.snapshot-before.ensures.held in
     reowned_moved policy c.args.conn c.args.octets.now c.args.own.now ps
     c.tell_neighbours.new.neighbours c.tell_neighbours.new.answer.neighbour
-    c.tell_neighbours.new.answer.actions.items c.standing-before.result.held looked c.in-Ok-tell_neighbours.ensures.told
+    c.tell_neighbours.new.answer.actions.items c.snapshot-before.result.held looked c.in-Ok-tell_neighbours.ensures.told
