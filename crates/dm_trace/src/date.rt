@@ -48,7 +48,11 @@ fn put_two_digits(text: &mut String, number: u32) -> Result<(), AllocError>
 }
 
 /// Appends a separator, and a number below 100 in two digits.
-fn put_next(text: &mut String, separator: &str, number: u32) -> Result<(), AllocError>
+fn put_separated_two_digits(
+    text: &mut String,
+    separator: &str,
+    number: u32,
+) -> Result<(), AllocError>
     ensures { OnOk result (string_bytes text.new ≡ string_bytes text.old ++ separator.now ++ two_digits number) }
 {
     text.push_str(separator)?;
@@ -60,8 +64,8 @@ fn put_full_date(text: &mut String, utc: &Utc) -> Result<(), AllocError>
     ensures { OnOk result (string_bytes text.new ≡ string_bytes text.old ++ full_date utc.now) }
 {
     put_decimal(text, u64::from(utc.year))?;
-    put_next(text, "-", utc.month)?;
-    put_next(text, "-", utc.day)?;
+    put_separated_two_digits(text, "-", utc.month)?;
+    put_separated_two_digits(text, "-", utc.day)?;
     Ok(())
 }
 
@@ -70,8 +74,8 @@ fn put_time_of_day(text: &mut String, utc: &Utc) -> Result<(), AllocError>
     ensures { OnOk result (string_bytes text.new ≡ string_bytes text.old ++ time_of_day utc.now) }
 {
     put_two_digits(text, utc.hour)?;
-    put_next(text, ":", utc.minute)?;
-    put_next(text, ":", utc.second)?;
+    put_separated_two_digits(text, ":", utc.minute)?;
+    put_separated_two_digits(text, ":", utc.second)?;
     Ok(())
 }
 

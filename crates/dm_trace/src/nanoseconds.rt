@@ -23,7 +23,7 @@ fn units_in_second(resolution: Resolution) -> Option<u128>
 }
 
 /// The units of a time on top of its seconds, in nanoseconds, rounded down.
-pub(crate) fn nanoseconds(time: Time) -> u128
+pub(crate) fn fraction_nanoseconds(time: Time) -> u128
     ensures { result ≡ nanoseconds_of time }
 {
     let units = u128::from(time.fraction) * u128::from(SECOND);
@@ -34,16 +34,16 @@ pub(crate) fn nanoseconds(time: Time) -> u128
 }
 
 /// A time in nanoseconds since 1970, rounded down.
-fn instant(time: Time) -> i128
+fn nanoseconds_since_1970(time: Time) -> i128
     ensures value { result ≡ instant_of time }
     ensures least { neg_ℤ (pos (2 ^ 126)) ≤ℤ result }
     ensures greatest { result ≤ℤ pos (2 ^ 126) }
 {
-    i128::from(time.seconds) * i128::from(SECOND) + nanoseconds(time).cast_signed()
+    i128::from(time.seconds) * i128::from(SECOND) + fraction_nanoseconds(time).cast_signed()
 }
 
 /// Appends nanoseconds as seconds.
-fn put_seconds(text: &mut String, nanoseconds: u128) -> Result<(), AllocError>
+fn put_as_seconds(text: &mut String, nanoseconds: u128) -> Result<(), AllocError>
     ensures { OnOk result (string_bytes text.new ≡ string_bytes text.old ++ seconds_text nanoseconds) }
 {
     let second = u128::from(SECOND);
@@ -52,25 +52,25 @@ fn put_seconds(text: &mut String, nanoseconds: u128) -> Result<(), AllocError>
 }
 
 /// Appends nanoseconds as seconds, behind `-` where they are below 0.
-fn put_signed_seconds(text: &mut String, nanoseconds: i128) -> Result<(), AllocError>
+fn put_as_signed_seconds(text: &mut String, nanoseconds: i128) -> Result<(), AllocError>
     ensures { OnOk result (string_bytes text.new ≡ string_bytes text.old ++ signed_seconds_text nanoseconds) }
 {
     if nanoseconds < 0 {
         text.push_str("-")?;
     }
-    put_seconds(text, nanoseconds.unsigned_abs())
+    put_as_seconds(text, nanoseconds.unsigned_abs())
 }
 
 /// The nanoseconds from a first time to another one, below 0 where that one is before.
 fn nanoseconds_between(first: Time, time: Time) -> i128
     ensures { result ≡ instant_of time -ℤ instant_of first }
 {
-    instant(time) - instant(first)
+    nanoseconds_since_1970(time) - nanoseconds_since_1970(first)
 }
 
 /// Appends the seconds from a first time to another one.
 pub(crate) fn put_elapsed(text: &mut String, first: Time, time: Time) -> Result<(), AllocError>
     ensures { OnOk result (string_bytes text.new ≡ string_bytes text.old ++ elapsed_text first time) }
 {
-    put_signed_seconds(text, nanoseconds_between(first, time))
+    put_as_signed_seconds(text, nanoseconds_between(first, time))
 }

@@ -56,7 +56,11 @@ fn put_ends(text: &mut String, from: Endpoint, to: Endpoint) -> Result<(), Alloc
 }
 
 /// Appends what carried a message, and in which packet: ` tcp packet 17`.
-fn put_place(text: &mut String, transport: Transport, packet: u64) -> Result<(), AllocError>
+fn put_transport_and_packet(
+    text: &mut String,
+    transport: Transport,
+    packet: u64,
+) -> Result<(), AllocError>
     ensures { OnOk result (string_bytes text.new ≡ string_bytes text.old ++ place_text transport packet) }
 {
     text.push_str(" ")?;
@@ -74,6 +78,6 @@ pub fn put_front(text: &mut String, clock: Clock, seen: &Seen) -> Result<(), All
 {
     put_time(text, clock, seen.time)?;
     put_ends(text, seen.from, seen.to)?;
-    put_place(text, seen.transport, seen.packet)?;
+    put_transport_and_packet(text, seen.transport, seen.packet)?;
     Ok(())
 }

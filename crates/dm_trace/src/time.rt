@@ -7,7 +7,7 @@ ghost use Rattle.dm_trace.specs.Times.{fraction_text, instant_text, clock_text, 
 
 use crate::date::{date_of, is_time_value, put_date_and_time, seconds_since_1900};
 use crate::digits::put_last_digits;
-use crate::nanoseconds::{nanoseconds, put_elapsed};
+use crate::nanoseconds::{fraction_nanoseconds, put_elapsed};
 use dm_capture::{Resolution, Time};
 use dm_text::put_decimal;
 use std::alloc::AllocError;
@@ -22,7 +22,7 @@ pub enum Clock {
 }
 
 /// Appends a point, and the last digits of a number.
-fn put_point(text: &mut String, count: u8, number: u64) -> Result<(), AllocError>
+fn put_point_and_digits(text: &mut String, count: u8, number: u64) -> Result<(), AllocError>
     ensures { OnOk result (string_bytes text.new ≡ string_bytes text.old ++ codes "." ++ last_digits count number) }
 {
     text.push_str(".")?;
@@ -35,8 +35,12 @@ fn put_fraction(text: &mut String, time: Time) -> Result<(), AllocError>
 {
     match time.resolution {
         Resolution::Decimal(0) => Ok(()),
-        Resolution::Decimal(power) => put_point(text, power, time.fraction),
-        Resolution::Binary(_) => put_point(text, 9, (nanoseconds(time) % 1_000_000_000) as u64),
+        Resolution::Decimal(power) => put_point_and_digits(text, power, time.fraction),
+        Resolution::Binary(_) => put_point_and_digits(
+            text,
+            9,
+            (fraction_nanoseconds(time) % 1_000_000_000) as u64,
+        ),
     }
 }
 
@@ -66,7 +70,7 @@ fn put_instant(text: &mut String, time: Time) -> Result<(), AllocError>
 }
 
 /// Appends a time as it is said.
-fn put_clock(text: &mut String, clock: Clock, time: Time) -> Result<(), AllocError>
+fn put_time_by_clock(text: &mut String, clock: Clock, time: Time) -> Result<(), AllocError>
     ensures { OnOk result (string_bytes text.new ≡ string_bytes text.old ++ clock_text clock time) }
 {
     match clock {
@@ -86,7 +90,7 @@ pub fn put_time(text: &mut String, clock: Clock, time: Option<Time>) -> Result<(
     ensures { OnOk result (string_bytes text.new ≡ string_bytes text.old ++ when_text clock time) }
 {
     match time {
-        Some(time) => put_clock(text, clock, time),
+        Some(time) => put_time_by_clock(text, clock, time),
         None => text.push_str("-"),
     }
 }

@@ -1,6 +1,6 @@
 use Rattle.std.proofs.Common.{arith}
 use Rattle.dm_trace.proofs.Seconds.{second_has_units, less_than_one}
-use Rattle.dm_trace.proofs.nanoseconds.nanoseconds.Goals as goal
+use Rattle.dm_trace.proofs.nanoseconds.fraction_nanoseconds.Goals as goal
 
 pub nonzero_div-result : goal.nonzero_div-result
 nonzero_div-result c = rw c.in-Some.ensures.1 (second_has_units c.args.time.resolution)
