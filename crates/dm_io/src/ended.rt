@@ -33,7 +33,7 @@ pub fn end_program<T, E: Write>(
     ensures front { (front rest : List ℕ) × (line_of words.now ≡ front ++ rest)
         × Appends (E.contents errors.old) (E.contents errors.new) front }
 {
-    let told = tell(words, errors);
+    let told = tell_words(words, errors);
     Ended {
         outcome,
         status,
@@ -42,7 +42,7 @@ pub fn end_program<T, E: Write>(
 }
 
 /// Writes the words and a line feed, or nothing where there are no words. False where that fails.
-fn tell<E: Write>(words: &str, errors: &mut E) -> bool
+fn tell_words<E: Write>(words: &str, errors: &mut E) -> bool
     ensures told { result ≡ true → Appends (E.contents errors.old) (E.contents errors.new) (line_of words.now) }
     ensures front { (front rest : List ℕ) × (line_of words.now ≡ front ++ rest)
         × Appends (E.contents errors.old) (E.contents errors.new) front }

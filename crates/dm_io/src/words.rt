@@ -20,13 +20,13 @@ pub enum WordsFault {
 /// The words after the program's name.
 pub fn program_words(rt: &(impl Env + AllocGlobal)) -> Result<Vec<String>, WordsFault> {
     match env::args(rt) {
-        Ok(words) => behind_name(rt.alloc(), words),
-        Err(error) => Err(fault_of(error.kind())),
+        Ok(words) => words_after_first(rt.alloc(), words),
+        Err(error) => Err(words_fault(error.kind())),
     }
 }
 
 /// Why the words can't be had: one of them isn't UTF-8, which is invalid data, or else no memory was left.
-fn fault_of(kind: ErrorKind) -> WordsFault
+fn words_fault(kind: ErrorKind) -> WordsFault
     ensures text { kind ≡ ErrorKind.InvalidData → result ≡ WordsFault.NotText }
     ensures memory { kind ≢ ErrorKind.InvalidData → result ≡ WordsFault.NoMemory }
 {
@@ -38,7 +38,7 @@ fn fault_of(kind: ErrorKind) -> WordsFault
 }
 
 /// All words but the first.
-fn behind_name(alloc: Global, words: Args) -> Result<Vec<String>, WordsFault>
+fn words_after_first(alloc: Global, words: Args) -> Result<Vec<String>, WordsFault>
     ensures behind { IfOk result (λ kept. kept.items ≡ drop 1 (into_iter_items words)) }
     ensures fault { IfErr result (λ fault. fault ≡ WordsFault.NoMemory) }
 {

@@ -1,6 +1,6 @@
 use Rattle.std.proofs.Common.{◌++◌, ◌∷◌, [], sym, ap, ◌∙◌, append_assoc}
 use Rattle.dm_io.proofs.Told.{line_of_words, front_of_line}
-use Rattle.dm_io.proofs.ended.tell.Goals as goal
+use Rattle.dm_io.proofs.ended.tell_words.Goals as goal
 
 pub returns-in-Ok-clause-front : goal.returns-in-Ok-clause-front
 returns-in-Ok-clause-front g c =
