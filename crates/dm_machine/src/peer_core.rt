@@ -9,7 +9,7 @@ use crate::inputs::Input;
 use crate::outputs::{Commands, Refusal};
 use crate::phase::{Phase, Role};
 use crate::state_name::State;
-use crate::table::from_phase;
+use crate::table::step_from_phase;
 use std::fmt::{self, Debug, Formatter, Write};
 use std::marker::Model;
 
@@ -138,6 +138,6 @@ pub fn step(core: &Core, input: Input, wins: bool) -> Result<(Core, Commands), R
     ensures refused { IfErr result (λ e. node_refusal core.now.state input ≡ Some e) }
     ensures shaped { IfOk result (λ r. IsTrue (is_shaped r.0)) }
 {
-    let (phase, commands) = from_phase(core.phase, input, wins)?;
+    let (phase, commands) = step_from_phase(core.phase, input, wins)?;
     Ok((Core { phase }, commands))
 }

@@ -12,29 +12,29 @@ mod wait_returns;
 use crate::inputs::Input;
 use crate::outputs::{Commands, Refusal};
 use crate::phase::Phase;
-use closed::from_closed;
-use closing::from_closing;
-use open::from_open;
-use wait_conn_ack::from_wait_conn_ack;
-use wait_conn_ack_elect::from_wait_conn_ack_elect;
-use wait_i_cea::from_wait_i_cea;
-use wait_returns::from_wait_returns;
+use closed::step_from_closed;
+use closing::step_from_closing;
+use open::step_from_open;
+use wait_conn_ack::step_from_wait_conn_ack;
+use wait_conn_ack_elect::step_from_wait_conn_ack_elect;
+use wait_i_cea::step_from_wait_i_cea;
+use wait_returns::step_from_wait_returns;
 
 /// The next state with its commands, or the refusal of the input.
 pub type Stepped = Result<(Phase, Commands), Refusal>;
 
 /// One step of the state table.
-pub fn from_phase(phase: Phase, input: Input, wins: bool) -> Stepped
+pub fn step_from_phase(phase: Phase, input: Input, wins: bool) -> Stepped
     requires { IsShapedPhase phase }
     ensures { PhaseSteps phase input wins result }
 {
     match phase {
-        Phase::Closed => from_closed(input),
-        Phase::WaitConnAck(i) => from_wait_conn_ack(i, input),
-        Phase::WaitICea(i) => from_wait_i_cea(i, input, wins),
-        Phase::WaitConnAckElect(i, r) => from_wait_conn_ack_elect(i, r, input, wins),
-        Phase::WaitReturns(i, r) => from_wait_returns(i, r, input),
-        Phase::Open(role, x, count) => from_open(role, x, count, input),
-        Phase::Closing(role, x) => from_closing(role, x, input),
+        Phase::Closed => step_from_closed(input),
+        Phase::WaitConnAck(i) => step_from_wait_conn_ack(i, input),
+        Phase::WaitICea(i) => step_from_wait_i_cea(i, input, wins),
+        Phase::WaitConnAckElect(i, r) => step_from_wait_conn_ack_elect(i, r, input, wins),
+        Phase::WaitReturns(i, r) => step_from_wait_returns(i, r, input),
+        Phase::Open(role, x, count) => step_from_open(role, x, count, input),
+        Phase::Closing(role, x) => step_from_closing(role, x, input),
     }
 }

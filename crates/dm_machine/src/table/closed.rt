@@ -7,7 +7,7 @@ use crate::inputs::{Input, Word};
 use crate::outputs::{Command, Refusal, none, one, two};
 use crate::phase::{Phase, Role};
 
-pub fn from_closed(input: Input) -> Stepped
+pub fn step_from_closed(input: Input) -> Stepped
     ensures { (wins : Bool) → PhaseSteps Phase.Closed input wins result }
 {
     match input {

@@ -8,7 +8,7 @@ use crate::inputs::{Input, Word};
 use crate::outputs::{Command, Refusal, none, one};
 use crate::phase::{Phase, Role};
 
-pub fn from_closing(role: Role, x: Conn, input: Input) -> Stepped
+pub fn step_from_closing(role: Role, x: Conn, input: Input) -> Stepped
     ensures { (wins : Bool) → PhaseSteps (Phase.Closing role x) input wins result }
 {
     let same = Phase::Closing(role, x);

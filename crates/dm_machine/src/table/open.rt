@@ -9,7 +9,7 @@ use crate::inputs::{Input, Word};
 use crate::outputs::{Command, Refusal, none, one};
 use crate::phase::{Phase, Role};
 
-pub fn from_open(role: Role, x: Conn, count: u8, input: Input) -> Stepped
+pub fn step_from_open(role: Role, x: Conn, count: u8, input: Input) -> Stepped
     requires { IsShapedPhase (Phase.Open role x count) }
     ensures accepted { role ≡ Accepted → (wins : Bool) → PhaseSteps (Phase.Open Accepted x count) input wins result }
     ensures initiated { role ≡ Initiated → (wins : Bool) → PhaseSteps (Phase.Open Initiated x count) input wins result }
@@ -46,7 +46,7 @@ pub fn from_open(role: Role, x: Conn, count: u8, input: Input) -> Stepped
         Input::Stop => Ok((Phase::Closing(role, x), one(Command::SendDpr(x)))),
         // x-Peer-Disc: x-Disc, Closed
         Input::Gone(conn) if x == conn => Ok((Phase::Closed, one(Command::Close(x)))),
-        Input::Tick => ticked(role, x, count),
+        Input::Tick => step_at_tick(role, x, count),
         // (own) Start: refused
         Input::Start(_) => Err(Refusal::NotClosed),
         // (own) all else: none, same
@@ -56,7 +56,7 @@ pub fn from_open(role: Role, x: Conn, count: u8, input: Input) -> Stepped
 
 /// A tick of the watchdog, of which RFC 6733, 5.6 says no more than that RFC 3539 "requires the use of watchdog
 /// messages to probe connections".
-fn ticked(role: Role, x: Conn, count: u8) -> Stepped
+fn step_at_tick(role: Role, x: Conn, count: u8) -> Stepped
     requires { IsShapedPhase (Phase.Open role x count) }
     ensures accepted { role ≡ Accepted → (wins : Bool)
         → PhaseSteps (Phase.Open Accepted x count) Input.Tick wins result }

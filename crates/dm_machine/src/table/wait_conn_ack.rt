@@ -8,7 +8,7 @@ use crate::inputs::{Input, Word};
 use crate::outputs::{Command, Refusal, none, one, two};
 use crate::phase::Phase;
 
-pub fn from_wait_conn_ack(i: Conn, input: Input) -> Stepped
+pub fn step_from_wait_conn_ack(i: Conn, input: Input) -> Stepped
     ensures { (wins : Bool) → PhaseSteps (Phase.WaitConnAck i) input wins result }
 {
     let same = Phase::WaitConnAck(i);

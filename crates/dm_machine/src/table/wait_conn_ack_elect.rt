@@ -7,7 +7,7 @@ use crate::inputs::Input;
 use crate::outputs::{Command, Refusal, none, one, three, two};
 use crate::phase::{Phase, Role};
 
-pub fn from_wait_conn_ack_elect(i: Conn, r: Conn, input: Input, wins: bool) -> Stepped
+pub fn step_from_wait_conn_ack_elect(i: Conn, r: Conn, input: Input, wins: bool) -> Stepped
     requires { IsShapedPhase (Phase.WaitConnAckElect i r) }
     ensures { PhaseSteps (Phase.WaitConnAckElect i r) input wins result }
 {

@@ -7,7 +7,7 @@ use crate::inputs::{Input, Word};
 use crate::outputs::{Command, Refusal, none, one, two};
 use crate::phase::{Phase, Role};
 
-pub fn from_wait_i_cea(i: Conn, input: Input, wins: bool) -> Stepped
+pub fn step_from_wait_i_cea(i: Conn, input: Input, wins: bool) -> Stepped
     ensures { PhaseSteps (Phase.WaitICea i) input wins result }
 {
     let same = Phase::WaitICea(i);

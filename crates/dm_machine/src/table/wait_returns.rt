@@ -8,7 +8,7 @@ use crate::inputs::{Input, Word};
 use crate::outputs::{Command, Refusal, none, one, two};
 use crate::phase::{Phase, Role};
 
-pub fn from_wait_returns(i: Conn, r: Conn, input: Input) -> Stepped
+pub fn step_from_wait_returns(i: Conn, r: Conn, input: Input) -> Stepped
     requires { IsShapedPhase (Phase.WaitReturns i r) }
     ensures { (wins : Bool) → PhaseSteps (Phase.WaitReturns i r) input wins result }
 {
