@@ -8,9 +8,9 @@ ghost use Rattle.dm_wire.specs.Printed.{data_text};
 ghost use Rattle.dm_dict.specs.Rules.{definition};
 ghost use Rattle.dm_view.specs.View.{avp_name, front_view, avp_view, avps_view, group_view};
 
-use crate::behind_name::put_behind_name;
+use crate::behind_name::put_code_and_flags;
 use crate::data::put_data;
-use crate::words::{put_indent, put_octets_behind, put_octets_name};
+use crate::words::{put_indent, put_octets_name, put_words_and_octets};
 use dm_dict::{AvpDef, AvpType, Dictionary};
 use dm_wire::{AvpRef, AvpsRef, spells_avps};
 use std::alloc::AllocError;
@@ -19,7 +19,7 @@ use std::alloc::AllocError;
 pub(crate) const GROUPS_SHOWN: u32 = 8;
 
 /// Appends the name of an AVP, `?` where it has no definition.
-pub(crate) fn put_name(text: &mut String, def: Option<&AvpDef>) -> Result<(), AllocError>
+pub(crate) fn put_avp_name(text: &mut String, def: Option<&AvpDef>) -> Result<(), AllocError>
     ensures { OnOk result (string_bytes text.new ≡ string_bytes text.old ++ avp_name (option_copied def.entry)) }
 {
     match def {
@@ -30,7 +30,7 @@ pub(crate) fn put_name(text: &mut String, def: Option<&AvpDef>) -> Result<(), Al
 
 /// Appends the front of an AVP's line: name, code, vendor and flags.
 #[tactic(auto, unfolding(crate::specs::View::front_view))]
-pub(crate) fn put_front(
+pub(crate) fn put_avp_front(
     text: &mut String,
     def: Option<&AvpDef>,
     avp: AvpRef<'_>,
@@ -38,8 +38,8 @@ pub(crate) fn put_front(
     ensures { OnOk result (string_bytes text.new
         ≡ string_bytes text.old ++ front_view (option_copied def.entry) (avp_of avp.entry)) }
 {
-    put_name(text, def)?;
-    put_behind_name(text, avp)
+    put_avp_name(text, def)?;
+    put_code_and_flags(text, avp)
 }
 
 /// Appends words, data in hexadecimal, and the end of the line.
@@ -47,7 +47,7 @@ fn put_data_line(text: &mut String, words: &str, octets: &[u8]) -> Result<(), Al
     ensures { OnOk result (string_bytes text.new
         ≡ string_bytes text.old ++ words.now ++ data_text octets.now ++ 10 ∷ []) }
 {
-    put_octets_behind(text, words, octets)?;
+    put_words_and_octets(text, words, octets)?;
     text.push_str("\n")
 }
 
@@ -67,7 +67,7 @@ fn put_avp(
 {
     let def = dictionary.avp_by_code(avp.code, avp.vendor);
     put_indent(text, level)?;
-    put_front(text, def, avp)?;
+    put_avp_front(text, def, avp)?;
     let Some(def) = def else {
         return put_data_line(text, " ", avp.bytes);
     };

@@ -14,10 +14,10 @@ ghost use Rattle.dm_view.specs.Words.{quoted};
 ghost use Rattle.dm_view.specs.View.{listed_text, value_view, flaw_words, data_view};
 
 use crate::clean::are_clean;
-use crate::described_data::of_16;
+use crate::described_data::ipv6_octets;
 use crate::words::{
-    put_number, put_octets, put_octets_behind, put_octets_name, put_quoted, put_signed,
-    put_unsigned,
+    put_number, put_octets, put_octets_name, put_quoted, put_signed, put_unsigned,
+    put_words_and_octets,
 };
 use byteorder::{BigEndian, ByteOrder};
 use dm_dict::{AvpDef, AvpType, Ip, ValueFault, unix_seconds, utc_date, value_fault};
@@ -27,7 +27,7 @@ use std::alloc::AllocError;
 use std::str;
 
 /// Appends a value of an Enumerated: its name where it is listed, and its number.
-fn put_listed(text: &mut String, name: Option<&Octets>, number: i32) -> Result<(), AllocError>
+fn put_enumerated(text: &mut String, name: Option<&Octets>, number: i32) -> Result<(), AllocError>
     ensures { OnOk result (string_bytes text.new
         ≡ string_bytes text.old ++ listed_text (option_copied name.entry) number) }
 {
@@ -57,7 +57,7 @@ fn put_ipv4(text: &mut String, octets: &[u8]) -> Result<(), AllocError>
 }
 
 /// Appends an address of a family that is no IP.
-fn put_other(text: &mut String, family: u16, octets: &[u8]) -> Result<(), AllocError>
+fn put_other_address(text: &mut String, family: u16, octets: &[u8]) -> Result<(), AllocError>
     ensures { OnOk result (string_bytes text.new ≡ string_bytes text.old
         ++ codes "family " ++ decimal family ++ codes " " ++ encode_lower octets.now) }
 {
@@ -74,8 +74,8 @@ pub(crate) fn put_address(text: &mut String, octets: &[u8]) -> Result<(), AllocE
     let (front, rest) = octets.split_at(2);
     match BigEndian::read_u16(front) {
         1 => put_ipv4(text, rest),
-        2 => write!(text, "{}", Ip::V6(of_16(rest))),
-        family => put_other(text, family, rest),
+        2 => write!(text, "{}", Ip::V6(ipv6_octets(rest))),
+        family => put_other_address(text, family, rest),
     }
 }
 
@@ -88,7 +88,7 @@ fn put_time(text: &mut String, seconds: u32) -> Result<(), AllocError>
 }
 
 /// Appends a text between `"`, or in hexadecimal where a control or a `"` stands in it.
-fn put_words(text: &mut String, octets: &[u8]) -> Result<(), AllocError>
+fn put_text_value(text: &mut String, octets: &[u8]) -> Result<(), AllocError>
     requires { flaw AvpType.UTF8String octets.now ≡ None }
     ensures { OnOk result (string_bytes text.new ≡ string_bytes text.old ++ quoted octets.now) }
 {
@@ -105,7 +105,7 @@ fn put_identity(text: &mut String, octets: &[u8]) -> Result<(), AllocError>
 }
 
 /// Appends the value of data with which nothing is wrong.
-fn put_meant(text: &mut String, def: &AvpDef, octets: &[u8]) -> Result<(), AllocError>
+fn put_value(text: &mut String, def: &AvpDef, octets: &[u8]) -> Result<(), AllocError>
     requires kind { def.now.kind ≢ AvpType.Grouped }
     requires sound { flaw def.now.kind octets.now ≡ None }
     ensures { OnOk result (string_bytes text.new
@@ -119,12 +119,12 @@ fn put_meant(text: &mut String, def: &AvpDef, octets: &[u8]) -> Result<(), Alloc
         AvpType::Unsigned64 => put_unsigned(text, BigEndian::read_u64(octets)),
         AvpType::Address => put_address(text, octets),
         AvpType::Time => put_time(text, BigEndian::read_u32(octets)),
-        AvpType::UTF8String => put_words(text, octets),
+        AvpType::UTF8String => put_text_value(text, octets),
         AvpType::DiameterIdentity => put_identity(text, octets),
         AvpType::DiameterURI => put_octets_name(text, octets),
         AvpType::Enumerated => {
             let number = BigEndian::read_i32(octets);
-            put_listed(text, def.values.name(number), number)
+            put_enumerated(text, def.values.name(number), number)
         }
         AvpType::Grouped => unreachable!(),
     }
@@ -149,11 +149,16 @@ fn put_flaw(text: &mut String, fault: ValueFault, octets: &[u8]) -> Result<(), A
 {
     text.push_str(" ")?;
     text.push_str(flaw_words(fault))?;
-    put_octets_behind(text, " ", octets)
+    put_words_and_octets(text, " ", octets)
 }
 
 /// Appends clean data between these words.
-fn put_clean(text: &mut String, front: &str, octets: &[u8], back: &str) -> Result<(), AllocError>
+fn put_clean_data(
+    text: &mut String,
+    front: &str,
+    octets: &[u8],
+    back: &str,
+) -> Result<(), AllocError>
     requires { IsUtf8 octets.now }
     ensures { OnOk result (string_bytes text.new
         ≡ string_bytes text.old ++ (front.now ++ (octets.now ++ back.now))) }
@@ -170,9 +175,9 @@ fn put_text_data(text: &mut String, def: &AvpDef, octets: &[u8]) -> Result<(), A
     ensures { OnOk result (string_bytes text.new ≡ string_bytes text.old ++ data_view def.now octets.now) }
 {
     if are_clean(octets, b' ') {
-        return put_clean(text, " \"", octets, "\"");
+        return put_clean_data(text, " \"", octets, "\"");
     }
-    put_judged(text, def, octets)
+    put_judged_data(text, def, octets)
 }
 
 /// Appends the data of an AVP that is an identity: where it is clean, it isn't judged.
@@ -181,17 +186,17 @@ fn put_identity_data(text: &mut String, def: &AvpDef, octets: &[u8]) -> Result<(
     ensures { OnOk result (string_bytes text.new ≡ string_bytes text.old ++ data_view def.now octets.now) }
 {
     if octets.is_empty() {
-        return put_judged(text, def, octets);
+        return put_judged_data(text, def, octets);
     }
     if are_clean(octets, b'!') {
-        return put_clean(text, " ", octets, "");
+        return put_clean_data(text, " ", octets, "");
     }
-    put_judged(text, def, octets)
+    put_judged_data(text, def, octets)
 }
 
 /// Appends the data of an AVP of this definition, as it is judged.
 #[tactic(auto, unfolding(crate::specs::View::data_view))]
-fn put_judged(text: &mut String, def: &AvpDef, octets: &[u8]) -> Result<(), AllocError>
+fn put_judged_data(text: &mut String, def: &AvpDef, octets: &[u8]) -> Result<(), AllocError>
     requires { def.now.kind ≢ AvpType.Grouped }
     ensures { OnOk result (string_bytes text.new ≡ string_bytes text.old ++ data_view def.now octets.now) }
 {
@@ -199,7 +204,7 @@ fn put_judged(text: &mut String, def: &AvpDef, octets: &[u8]) -> Result<(), Allo
         Some(fault) => put_flaw(text, fault, octets),
         None => {
             text.push_str(" ")?;
-            put_meant(text, def, octets)
+            put_value(text, def, octets)
         }
     }
 }
@@ -215,5 +220,5 @@ pub(crate) fn put_data(text: &mut String, def: &AvpDef, octets: &[u8]) -> Result
     if let AvpType::DiameterIdentity = def.kind {
         return put_identity_data(text, def, octets);
     }
-    put_judged(text, def, octets)
+    put_judged_data(text, def, octets)
 }

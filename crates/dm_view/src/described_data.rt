@@ -55,7 +55,7 @@ fn write_value<W: fmt::Write>(f: &mut fmt::Formatter<W>, def: &AvpDef, octets: &
         AvpType::DiameterIdentity | AvpType::DiameterURI => write_name(f, octets),
         AvpType::Enumerated => {
             let number = BigEndian::read_i32(octets);
-            write_listed(f, def.values.name(number), number)
+            write_enumerated(f, def.values.name(number), number)
         }
         AvpType::Grouped => Err(fmt::Error),
     }
@@ -68,8 +68,8 @@ fn write_address<W: fmt::Write>(f: &mut fmt::Formatter<W>, octets: &[u8]) -> fmt
 {
     let (front, rest) = octets.split_at(2);
     match BigEndian::read_u16(front) {
-        1 => write!(f, "{}", Ip::V4(of_4(rest))),
-        2 => write!(f, "{}", Ip::V6(of_16(rest))),
+        1 => write!(f, "{}", Ip::V4(ipv4_octets(rest))),
+        2 => write!(f, "{}", Ip::V6(ipv6_octets(rest))),
         family => write!(f, "family {family} {}", Hexadecimal(rest)),
     }
 }
@@ -103,7 +103,7 @@ fn write_name<W: fmt::Write>(f: &mut fmt::Formatter<W>, octets: &[u8]) -> fmt::R
 }
 
 /// Writes a value of an Enumerated: its name where it is listed, and its number.
-fn write_listed<W: fmt::Write>(
+fn write_enumerated<W: fmt::Write>(
     f: &mut fmt::Formatter<W>,
     name: Option<&Octets>,
     number: i32,
@@ -117,7 +117,7 @@ fn write_listed<W: fmt::Write>(
 }
 
 /// The octets of an address of family 1.
-fn of_4(octets: &[u8]) -> [u8; 4]
+fn ipv4_octets(octets: &[u8]) -> [u8; 4]
     requires { length octets.now ≡ 4 }
     ensures { result ≡ octets.now }
 {
@@ -127,7 +127,7 @@ fn of_4(octets: &[u8]) -> [u8; 4]
 }
 
 /// The octets of an address of family 2.
-pub(crate) fn of_16(octets: &[u8]) -> [u8; 16]
+pub(crate) fn ipv6_octets(octets: &[u8]) -> [u8; 16]
     requires { length octets.now ≡ 16 }
     ensures { result ≡ octets.now }
 {

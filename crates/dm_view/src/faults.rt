@@ -12,7 +12,7 @@ ghost use Rattle.dm_view.specs.Check.{step_text, without_data, failed_length, fr
 ghost use Rattle.dm_view.specs.Results.{result_text};
 ghost use Rattle.dm_view.specs.Check.{failed_view, fault_line, verdict_words, are_none, check_view};
 
-use crate::avps::{put_front, put_name};
+use crate::avps::{put_avp_front, put_avp_name};
 use crate::header::put_header;
 use crate::reasons::{Reason, ReasonBehind};
 use crate::results::result_name;
@@ -29,7 +29,7 @@ fn put_step(text: &mut String, dictionary: &Dictionary, step: &Step) -> Result<(
     ensures { OnOk result (string_bytes text.new ≡ string_bytes text.old ++ step_text dictionary.now.avps step.now) }
 {
     text.push_str(" ")?;
-    put_name(text, dictionary.avp_by_code(step.code, step.vendor))?;
+    put_avp_name(text, dictionary.avp_by_code(step.code, step.vendor))?;
     text.push_str("[")?;
     put_decimal(text, step.nth as u64)?;
     text.push_str("] /")
@@ -49,7 +49,7 @@ fn put_path(text: &mut String, dictionary: &Dictionary, path: &[Step]) -> Result
 }
 
 /// The failed AVP without its data.
-pub(crate) fn front_of(failed: Failed<'_>) -> Option<AvpRef<'_>>
+pub(crate) fn failed_without_data(failed: Failed<'_>) -> Option<AvpRef<'_>>
     ensures { option_map avp_of result ≡ option_map without_data (failed_of failed.entry) }
 {
     match failed {
@@ -77,7 +77,7 @@ pub(crate) fn failed_length(failed: Failed<'_>) -> usize
 }
 
 /// Appends a failed AVP, whose data has this length: that it is lacking, or its front and why it is a fault.
-fn put_words(
+fn put_failed_words(
     text: &mut String,
     def: Option<&AvpDef>,
     code: u32,
@@ -89,17 +89,17 @@ fn put_words(
 {
     if code == MISSING_AVP {
         text.push_str(" lacks ")?;
-        return put_front(text, def, avp);
+        return put_avp_front(text, def, avp);
     }
     text.push_str(" ")?;
-    put_front(text, def, avp)?;
+    put_avp_front(text, def, avp)?;
     let kind = def.map(|def| def.kind);
     let reason = Reason { code, kind, length };
     write!(text, "{}", ReasonBehind(reason))
 }
 
 /// Appends a failed AVP, where there is one.
-fn put_failed(
+fn put_failed_if_any(
     text: &mut String,
     dictionary: &Dictionary,
     code: u32,
@@ -113,11 +113,11 @@ fn put_failed(
         return Ok(());
     };
     let def = dictionary.avp_by_code(avp.code, avp.vendor);
-    put_words(text, def, code, length, avp)
+    put_failed_words(text, def, code, length, avp)
 }
 
 /// Appends a Result-Code with its name, two spaces before it.
-fn put_result(text: &mut String, code: u32) -> Result<(), AllocError>
+fn put_result_code(text: &mut String, code: u32) -> Result<(), AllocError>
     ensures { OnOk result (string_bytes text.new ≡ string_bytes text.old ++ (codes "  " ++ result_text code)) }
 {
     put_number(text, "  ", code)?;
@@ -135,10 +135,10 @@ fn put_fault(
         ≡ string_bytes text.old ++ fault_line dictionary.now.avps (told_at fault.now)) }
 {
     let (code, failed) = (fault.fault.code, fault.fault.failed);
-    put_result(text, code)?;
+    put_result_code(text, code)?;
     put_path(text, dictionary, fault.path.as_slice())?;
     let length = failed_length(failed);
-    put_failed(text, dictionary, code, length, front_of(failed))?;
+    put_failed_if_any(text, dictionary, code, length, failed_without_data(failed))?;
     text.push_str("\n")?;
     Ok(())
 }
@@ -179,7 +179,7 @@ fn put_verdict(text: &mut String, faults: &[LocatedFault<'_>]) -> Result<bool, A
 }
 
 /// Appends the text for a message of these faults, and tells whether there are none.
-fn put_checked(
+fn put_check_of_faults(
     text: &mut String,
     dictionary: &Dictionary,
     message: &MessageRef<'_>,
@@ -212,6 +212,6 @@ pub fn put_check(
         good ≡ are_none (located_faults dictionary.now (record { header = message.now.header; avps = l }))) }
 {
     let faults = dictionary.located_in(alloc, message)?;
-    let good = put_checked(text, dictionary, message, faults.as_slice())?;
+    let good = put_check_of_faults(text, dictionary, message, faults.as_slice())?;
     Ok(good)
 }

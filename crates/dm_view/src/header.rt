@@ -11,7 +11,7 @@ use dm_wire::Header;
 use std::alloc::AllocError;
 
 /// Appends the name of a command, `?` where it has no definition.
-fn put_command(text: &mut String, def: Option<&CommandDef>) -> Result<(), AllocError>
+fn put_command_name(text: &mut String, def: Option<&CommandDef>) -> Result<(), AllocError>
     ensures { OnOk result (string_bytes text.new ≡ string_bytes text.old ++ command_name (option_copied def.entry)) }
 {
     match def {
@@ -21,7 +21,7 @@ fn put_command(text: &mut String, def: Option<&CommandDef>) -> Result<(), AllocE
 }
 
 /// The flags of a header in words, a space before each.
-fn spaced_words(header: &Header) -> &'static str
+fn spaced_flag_words(header: &Header) -> &'static str
     ensures { result.now ≡ flag_words header.now }
 {
     match (
@@ -50,14 +50,18 @@ fn spaced_words(header: &Header) -> &'static str
 }
 
 /// Appends the flags of a header in words, a space before each.
-fn put_flags(text: &mut String, header: &Header) -> Result<(), AllocError>
+fn put_flag_words(text: &mut String, header: &Header) -> Result<(), AllocError>
     ensures { OnOk result (string_bytes text.new ≡ string_bytes text.old ++ flag_words header.now) }
 {
-    text.push_str(spaced_words(header))
+    text.push_str(spaced_flag_words(header))
 }
 
 /// Appends words, and a number in decimal and in hexadecimal.
-fn put_both(text: &mut String, words: &str, number: u32) -> Result<(), AllocError>
+fn put_decimal_and_hexadecimal(
+    text: &mut String,
+    words: &str,
+    number: u32,
+) -> Result<(), AllocError>
     ensures { OnOk result (string_bytes text.new ≡ string_bytes text.old ++ words.now ++ both_text number) }
 {
     let octets = number.to_be_bytes();
@@ -77,15 +81,15 @@ pub fn put_header(
     ensures { OnOk result (string_bytes text.new
         ≡ string_bytes text.old ++ header_view (command_of dictionary.now header.now) header.now) }
 {
-    put_command(
+    put_command_name(
         text,
         dictionary.command(header.command, header.request, false),
     )?;
     put_number(text, " ", header.command)?;
-    put_flags(text, header)?;
+    put_flag_words(text, header)?;
     put_number(text, ", application ", header.application)?;
-    put_both(text, ", hop-by-hop ", header.hop_id)?;
-    put_both(text, ", end-to-end ", header.end_id)?;
+    put_decimal_and_hexadecimal(text, ", hop-by-hop ", header.hop_id)?;
+    put_decimal_and_hexadecimal(text, ", end-to-end ", header.end_id)?;
     text.push_str("\n")?;
     Ok(())
 }

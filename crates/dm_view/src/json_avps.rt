@@ -24,7 +24,7 @@ fn put_defined_name(json: &mut JsonText, name: &[u8]) -> Result<(), AllocError>
     ensures { OnOk result (json.new ≡ json.old ++ key (codes "name") ∷ json_tokens (text_json name.now)) }
 {
     if are_clean(name, b' ') {
-        return json.clean_name(unsafe { str::from_utf8_unchecked(name) });
+        return json.clean_name_member(unsafe { str::from_utf8_unchecked(name) });
     }
     json.key("name")?;
     put_text(json, name)
@@ -45,14 +45,14 @@ fn put_name_member(json: &mut JsonText, def: Option<&AvpDef>) -> Result<(), Allo
 }
 
 /// Appends the flags of an AVP in words, as a member.
-fn put_flags(json: &mut JsonText, avp: AvpRef<'_>) -> Result<(), AllocError>
+fn put_avp_flags(json: &mut JsonText, avp: AvpRef<'_>) -> Result<(), AllocError>
     ensures { OnOk result (json.new ≡ json.old ++ key (codes "flags") ∷ json_tokens (avp_words (avp_of avp.entry))) }
 {
-    json.flags(avp.vendor.is_some(), avp.mandatory, avp.protected)
+    json.flags_member(avp.vendor.is_some(), avp.mandatory, avp.protected)
 }
 
 /// Appends name, code, vendor and flags of an AVP.
-pub(crate) fn put_front(
+pub(crate) fn put_json_avp_front(
     json: &mut JsonText,
     def: Option<&AvpDef>,
     avp: AvpRef<'_>,
@@ -61,9 +61,9 @@ pub(crate) fn put_front(
         ≡ json.old ++ members_tokens (front_members (option_copied def.entry) (avp_of avp.entry) more)) }
 {
     put_name_member(json, def)?;
-    json.code(avp.code)?;
+    json.code_member(avp.code)?;
     put_vendor(json, avp.vendor)?;
-    put_flags(json, avp)
+    put_avp_flags(json, avp)
 }
 
 /// Appends an AVP, inside which so many groups may stand.
@@ -79,15 +79,15 @@ fn put_avp(
 {
     let def = dictionary.avp_by_code(avp.code, avp.vendor);
     json.begin_object()?;
-    put_front(json, def, avp)?;
+    put_json_avp_front(json, def, avp)?;
     json.value_key()?;
-    put_behind(json, dictionary, def, avp.bytes, depth)?;
+    put_avp_data(json, dictionary, def, avp.bytes, depth)?;
     json.end_object()
 }
 
 /// Appends the data of an AVP, inside which so many groups may stand.
 #[cycle(telling)]
-fn put_behind(
+fn put_avp_data(
     json: &mut JsonText,
     dictionary: &Dictionary,
     def: Option<&AvpDef>,

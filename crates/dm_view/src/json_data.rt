@@ -19,7 +19,11 @@ use std::alloc::AllocError;
 use std::str;
 
 /// Appends a value of an Enumerated: its number, and its name where it is listed.
-fn put_listed(json: &mut JsonText, name: Option<&Octets>, number: i32) -> Result<(), AllocError>
+fn put_json_enumerated(
+    json: &mut JsonText,
+    name: Option<&Octets>,
+    number: i32,
+) -> Result<(), AllocError>
     ensures { OnOk result (json.new ≡ json.old ++ json_tokens (listed_json (option_copied name.entry) number)) }
 {
     json.begin_object()?;
@@ -43,7 +47,7 @@ fn put_time(json: &mut JsonText, time: u32) -> Result<(), AllocError>
 }
 
 /// Appends a text.
-fn put_words(json: &mut JsonText, octets: &[u8]) -> Result<(), AllocError>
+fn put_json_text(json: &mut JsonText, octets: &[u8]) -> Result<(), AllocError>
     requires { flaw AvpType.UTF8String octets.now ≡ None }
     ensures { OnOk result (json.new ≡ json.old ++ json_tokens (string octets.now)) }
 {
@@ -61,7 +65,7 @@ fn put_identity(json: &mut JsonText, octets: &[u8]) -> Result<(), AllocError>
 }
 
 /// Appends the value of data with which nothing is wrong.
-fn put_meant(json: &mut JsonText, def: &AvpDef, octets: &[u8]) -> Result<(), AllocError>
+fn put_json_value(json: &mut JsonText, def: &AvpDef, octets: &[u8]) -> Result<(), AllocError>
     requires kind { def.now.kind ≢ AvpType.Grouped }
     requires sound { flaw def.now.kind octets.now ≡ None }
     ensures { OnOk result (json.new
@@ -75,12 +79,12 @@ fn put_meant(json: &mut JsonText, def: &AvpDef, octets: &[u8]) -> Result<(), All
         AvpType::Unsigned64 => json.number(BigEndian::read_u64(octets)),
         AvpType::Address => json.address(octets),
         AvpType::Time => put_time(json, BigEndian::read_u32(octets)),
-        AvpType::UTF8String => put_words(json, octets),
+        AvpType::UTF8String => put_json_text(json, octets),
         AvpType::DiameterIdentity => put_identity(json, octets),
         AvpType::DiameterURI => put_text(json, octets),
         AvpType::Enumerated => {
             let number = BigEndian::read_i32(octets);
-            put_listed(json, def.values.name(number), number)
+            put_json_enumerated(json, def.values.name(number), number)
         }
         AvpType::Grouped => unreachable!(),
     }
@@ -92,9 +96,9 @@ fn put_text_data(json: &mut JsonText, def: &AvpDef, octets: &[u8]) -> Result<(),
     ensures { OnOk result (json.new ≡ json.old ++ json_tokens (data_json def.now octets.now)) }
 {
     if are_clean(octets, b' ') {
-        return json.clean(unsafe { str::from_utf8_unchecked(octets) });
+        return json.clean_string(unsafe { str::from_utf8_unchecked(octets) });
     }
-    put_judged(json, def, octets)
+    put_json_judged_data(json, def, octets)
 }
 
 /// Appends the data of an AVP that is an identity: where it is clean, it isn't judged.
@@ -103,23 +107,23 @@ fn put_identity_data(json: &mut JsonText, def: &AvpDef, octets: &[u8]) -> Result
     ensures { OnOk result (json.new ≡ json.old ++ json_tokens (data_json def.now octets.now)) }
 {
     if octets.is_empty() {
-        return put_judged(json, def, octets);
+        return put_json_judged_data(json, def, octets);
     }
     if are_clean(octets, b'!') {
-        return json.clean(unsafe { str::from_utf8_unchecked(octets) });
+        return json.clean_string(unsafe { str::from_utf8_unchecked(octets) });
     }
-    put_judged(json, def, octets)
+    put_json_judged_data(json, def, octets)
 }
 
 /// Appends the data of an AVP of this definition, as it is judged.
 #[tactic(auto, unfolding(crate::specs::JsonView::data_json))]
-fn put_judged(json: &mut JsonText, def: &AvpDef, octets: &[u8]) -> Result<(), AllocError>
+fn put_json_judged_data(json: &mut JsonText, def: &AvpDef, octets: &[u8]) -> Result<(), AllocError>
     requires { def.now.kind ≢ AvpType.Grouped }
     ensures { OnOk result (json.new ≡ json.old ++ json_tokens (data_json def.now octets.now)) }
 {
     match value_fault(def.kind, octets) {
         Some(fault) => put_flaw(json, flaw_words(fault), octets),
-        None => put_meant(json, def, octets),
+        None => put_json_value(json, def, octets),
     }
 }
 
@@ -134,5 +138,5 @@ pub(crate) fn put_data(json: &mut JsonText, def: &AvpDef, octets: &[u8]) -> Resu
     if let AvpType::DiameterIdentity = def.kind {
         return put_identity_data(json, def, octets);
     }
-    put_judged(json, def, octets)
+    put_json_judged_data(json, def, octets)
 }

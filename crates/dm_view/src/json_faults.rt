@@ -14,8 +14,8 @@ ghost use Rattle.dm_view.specs.Check.{are_none};
 ghost use Rattle.dm_view.specs.JsonCheck.{failed_words, failed_members_by, failed_members};
 ghost use Rattle.dm_view.specs.JsonCheck.{fault_json, faults_items, verdict_json, check_members};
 
-use crate::faults::{failed_length, front_of};
-use crate::json_avps::put_front;
+use crate::faults::{failed_length, failed_without_data};
+use crate::json_avps::put_json_avp_front;
 use crate::json_header::put_json_header;
 use crate::json_path::put_path;
 use crate::json_text::JsonText;
@@ -56,7 +56,7 @@ fn put_failed_avp(
 {
     json.key("avp")?;
     json.begin_object()?;
-    put_front(json, def, avp)?;
+    put_json_avp_front(json, def, avp)?;
     json.end_object()?;
     let words = failed_words(alloc, code, def, length)?;
     json.text_member("reason", words.as_str())?;
@@ -64,7 +64,7 @@ fn put_failed_avp(
 }
 
 /// Appends a failed AVP, where there is one, and the end of the fault.
-fn put_failed(
+fn put_json_failed_if_any(
     alloc: Global,
     json: &mut JsonText,
     dictionary: &Dictionary,
@@ -100,7 +100,14 @@ fn put_fault(
     json.begin_array()?;
     put_path(json, dictionary, fault.path.as_slice())?;
     let length = failed_length(failed);
-    put_failed(alloc, json, dictionary, code, length, front_of(failed))?;
+    put_json_failed_if_any(
+        alloc,
+        json,
+        dictionary,
+        code,
+        length,
+        failed_without_data(failed),
+    )?;
     Ok(())
 }
 
@@ -129,8 +136,8 @@ pub fn put_json_verdict(json: &mut JsonText, good: bool) -> Result<(), AllocErro
     json.text_member("verdict", if good { "good" } else { "bad" })
 }
 
-/// Appends what is said of a message of these faults.
-fn put_checked(
+/// Appends whether a message of these faults is good, its header and the faults.
+fn put_json_check_of_faults(
     alloc: Global,
     json: &mut JsonText,
     dictionary: &Dictionary,
@@ -168,7 +175,7 @@ pub fn put_json_check(
 {
     let faults = dictionary.located_in(alloc, message)?;
     let good = faults.is_empty();
-    let done = put_checked(alloc, json, dictionary, message, faults.as_slice());
+    let done = put_json_check_of_faults(alloc, json, dictionary, message, faults.as_slice());
     drop(faults);
     done?;
     Ok(good)

@@ -12,7 +12,7 @@ use dm_wire::Header;
 use std::alloc::AllocError;
 
 /// Appends the name of a command, where it has a definition.
-fn put_command(json: &mut JsonText, def: Option<&CommandDef>) -> Result<(), AllocError>
+fn put_json_command_name(json: &mut JsonText, def: Option<&CommandDef>) -> Result<(), AllocError>
     ensures { OnOk result (json.new ≡ json.old ++ json_tokens (command_json (option_copied def.entry))) }
 {
     match def {
@@ -21,7 +21,7 @@ fn put_command(json: &mut JsonText, def: Option<&CommandDef>) -> Result<(), Allo
     }
 }
 
-/// Whether it is a request's, in words.
+/// The word for whether the header is a request's or an answer's.
 fn kind_words(header: &Header) -> &'static str
     ensures { result.now ≡ kind_words header.now }
 {
@@ -29,7 +29,7 @@ fn kind_words(header: &Header) -> &'static str
 }
 
 /// Appends the flags of a header in words.
-fn put_flags(json: &mut JsonText, header: &Header) -> Result<(), AllocError>
+fn put_json_flag_words(json: &mut JsonText, header: &Header) -> Result<(), AllocError>
     ensures { OnOk result (json.new ≡ json.old ++ json_tokens (header_words header.now)) }
 {
     json.begin_array()?;
@@ -45,9 +45,9 @@ fn put_flags(json: &mut JsonText, header: &Header) -> Result<(), AllocError>
 fn put_identifiers(json: &mut JsonText, header: &Header) -> Result<(), AllocError>
     ensures { OnOk result (json.new ≡ json.old ++ members_tokens (identifiers header.now)) }
 {
-    json.number_under("\"application\":", header.application)?;
-    json.number_under("\"hop_by_hop\":", header.hop_id)?;
-    json.number_under("\"end_to_end\":", header.end_id)?;
+    json.number_behind_key("\"application\":", header.application)?;
+    json.number_behind_key("\"hop_by_hop\":", header.hop_id)?;
+    json.number_behind_key("\"end_to_end\":", header.end_id)?;
     json.end_object()?;
     Ok(())
 }
@@ -65,10 +65,10 @@ pub fn put_json_header(
     let def = dictionary.command(header.command, header.request, false);
     json.begin_object()?;
     json.key("command")?;
-    put_command(json, def)?;
+    put_json_command_name(json, def)?;
     json.number_member("code", header.command)?;
     json.key("flags")?;
-    put_flags(json, header)?;
+    put_json_flag_words(json, header)?;
     put_identifiers(json, header)?;
     Ok(())
 }

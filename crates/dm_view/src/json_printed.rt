@@ -47,7 +47,7 @@ impl Model for Printed {
 }
 
 /// A text without octets, with room where that is to be had.
-fn roomy(alloc: Global) -> String
+fn string_with_room(alloc: Global) -> String
     ensures { string_bytes result ≡ [] }
 {
     match String::with_capacity(alloc, ROOM) {
@@ -111,14 +111,19 @@ impl Printed {
         ensures { result ≡ [] }
     {
         Printed {
-            text: roomy(alloc),
+            text: string_with_room(alloc),
             after_value: false,
         }
     }
 
     /// Appends what some tokens are printed as. (So inlined, a piece that is at hand costs no call.)
     #[inline(always)]
-    pub(crate) fn put(&mut self, begun: bool, piece: &str, ended: bool) -> Result<(), AllocError>
+    pub(crate) fn put_tokens(
+        &mut self,
+        begun: bool,
+        piece: &str,
+        ended: bool,
+    ) -> Result<(), AllocError>
         requires { (ts : List Token) × IsPrintedAs begun piece.now ended ts }
         ensures { (ts : List Token) → IsPrintedAs begun piece.now ended ts → OnOk result (self.new ≡ self.old ++ ts) }
     {
@@ -138,7 +143,7 @@ impl Printed {
 
     /// Appends what some tokens are printed as, in three pieces.
     #[inline(always)]
-    pub(crate) fn put_three(
+    pub(crate) fn put_tokens_in_pieces(
         &mut self,
         begun: bool,
         front: &str,
@@ -168,28 +173,28 @@ impl Printed {
     pub(crate) fn begin_object(&mut self) -> Result<(), AllocError>
         ensures { OnOk result (self.new ≡ self.old ++ begin_object ∷ []) }
     {
-        self.put(true, "{", false)
+        self.put_tokens(true, "{", false)
     }
 
     /// Closes an object.
     pub(crate) fn end_object(&mut self) -> Result<(), AllocError>
         ensures { OnOk result (self.new ≡ self.old ++ end_object ∷ []) }
     {
-        self.put(false, "}", true)
+        self.put_tokens(false, "}", true)
     }
 
     /// Opens an array.
     pub(crate) fn begin_array(&mut self) -> Result<(), AllocError>
         ensures { OnOk result (self.new ≡ self.old ++ begin_array ∷ []) }
     {
-        self.put(true, "[", false)
+        self.put_tokens(true, "[", false)
     }
 
     /// Closes an array.
     pub(crate) fn end_array(&mut self) -> Result<(), AllocError>
         ensures { OnOk result (self.new ≡ self.old ++ end_array ∷ []) }
     {
-        self.put(false, "]", true)
+        self.put_tokens(false, "]", true)
     }
 
     /// The name of a member, whose value follows.
@@ -197,22 +202,22 @@ impl Printed {
         ensures { OnOk result (self.new ≡ self.old ++ key name.now ∷ []) }
     {
         if are_clean(name.as_bytes(), b' ') {
-            return self.put_three(true, "\"", name, "\":", false);
+            return self.put_tokens_in_pieces(true, "\"", name, "\":", false);
         }
         let octets = escaped(alloc, name)?;
         // What is written is text.
         let text = unsafe { str::from_utf8_unchecked(octets.as_slice()) };
-        let done = self.put_three(true, "", text, ":", false);
+        let done = self.put_tokens_in_pieces(true, "", text, ":", false);
         drop(octets);
         done
     }
 
     /// A text that needs no escapes.
-    pub(crate) fn clean(&mut self, text: &str) -> Result<(), AllocError>
+    pub(crate) fn clean_string(&mut self, text: &str) -> Result<(), AllocError>
         requires { escape text.now ≡ text.now }
         ensures { OnOk result (self.new ≡ self.old ++ string text.now ∷ []) }
     {
-        self.put_three(true, "\"", text, "\"", true)
+        self.put_tokens_in_pieces(true, "\"", text, "\"", true)
     }
 
     /// A text.
@@ -220,12 +225,12 @@ impl Printed {
         ensures { OnOk result (self.new ≡ self.old ++ string text.now ∷ []) }
     {
         if are_clean(text.as_bytes(), b' ') {
-            return self.clean(text);
+            return self.clean_string(text);
         }
         let octets = escaped(alloc, text)?;
         // What is written is text.
         let text = unsafe { str::from_utf8_unchecked(octets.as_slice()) };
-        let done = self.put(true, text, true);
+        let done = self.put_tokens(true, text, true);
         drop(octets);
         done
     }
@@ -235,7 +240,7 @@ impl Printed {
         ensures { OnOk result (self.new ≡ self.old ++ number (decimal value) ∷ []) }
     {
         let mut digits = Buffer::new();
-        self.put(true, digits.format(value), true)
+        self.put_tokens(true, digits.format(value), true)
     }
 
     /// A number.
@@ -243,7 +248,7 @@ impl Printed {
         ensures { OnOk result (self.new ≡ self.old ++ number (signed_decimal value) ∷ []) }
     {
         let mut digits = Buffer::new();
-        self.put(true, digits.format(value), true)
+        self.put_tokens(true, digits.format(value), true)
     }
 
     /// A member that is a number from 0 on, behind its name between `"` and a colon.
@@ -253,14 +258,14 @@ impl Printed {
             → OnOk result (self.new ≡ self.old ++ key k ∷ number (decimal value) ∷ []) }
     {
         let mut digits = Buffer::new();
-        self.put_three(true, name, digits.format(u64::from(value)), "", true)
+        self.put_tokens_in_pieces(true, name, digits.format(u64::from(value)), "", true)
     }
 
     /// Nothing.
     pub(crate) fn null(&mut self) -> Result<(), AllocError>
         ensures { OnOk result (self.new ≡ self.old ++ null ∷ []) }
     {
-        self.put(true, "null", true)
+        self.put_tokens(true, "null", true)
     }
 
     /// Appends the text so far.

@@ -112,24 +112,24 @@ impl JsonText {
     }
 
     /// A text that needs no escapes.
-    pub(crate) fn clean(&mut self, text: &str) -> Result<(), AllocError>
+    pub(crate) fn clean_string(&mut self, text: &str) -> Result<(), AllocError>
         requires { escape text.now ≡ text.now }
         ensures { OnOk result (self.new ≡ self.old ++ string text.now ∷ []) }
     {
-        self.printed.clean(text)
+        self.printed.clean_string(text)
     }
 
     /// The name of an AVP that needs no escapes, as a member.
-    pub(crate) fn clean_name(&mut self, name: &str) -> Result<(), AllocError>
+    pub(crate) fn clean_name_member(&mut self, name: &str) -> Result<(), AllocError>
         requires { escape name.now ≡ name.now }
         ensures { OnOk result (self.new ≡ self.old ++ key (codes "name") ∷ string name.now ∷ []) }
     {
         self.printed
-            .put_three(true, "\"name\":\"", name, "\"", true)
+            .put_tokens_in_pieces(true, "\"name\":\"", name, "\"", true)
     }
 
     /// A member that is a number from 0 on, behind its name between `"` and a colon.
-    pub(crate) fn number_under(&mut self, name: &str, value: u32) -> Result<(), AllocError>
+    pub(crate) fn number_behind_key(&mut self, name: &str, value: u32) -> Result<(), AllocError>
         requires { (k : List ℕ) × (name.now ≡ token_text (key k)) }
         ensures { (k : List ℕ) → name.now ≡ token_text (key k)
             → OnOk result (self.new ≡ self.old ++ key k ∷ number (decimal value) ∷ []) }
@@ -138,14 +138,14 @@ impl JsonText {
     }
 
     /// The code of an AVP, as a member.
-    pub(crate) fn code(&mut self, code: u32) -> Result<(), AllocError>
+    pub(crate) fn code_member(&mut self, code: u32) -> Result<(), AllocError>
         ensures { OnOk result (self.new ≡ self.old ++ key (codes "code") ∷ number (decimal code) ∷ []) }
     {
         self.printed.number_member("\"code\":", code)
     }
 
     /// The flags of an AVP in words, as a member.
-    pub(crate) fn flags(
+    pub(crate) fn flags_member(
         &mut self,
         vendor: bool,
         mandatory: bool,
@@ -154,14 +154,14 @@ impl JsonText {
         ensures { OnOk result (self.new ≡ self.old ++ flags_tokens vendor mandatory protected) }
     {
         self.printed
-            .put(true, flags_text(vendor, mandatory, protected), true)
+            .put_tokens(true, flags_text(vendor, mandatory, protected), true)
     }
 
     /// The key of an AVP's value.
     pub(crate) fn value_key(&mut self) -> Result<(), AllocError>
         ensures { OnOk result (self.new ≡ self.old ++ key (codes "value") ∷ []) }
     {
-        self.printed.put(true, "\"value\":", false)
+        self.printed.put_tokens(true, "\"value\":", false)
     }
 
     /// Octets in hexadecimal, as a text.

@@ -43,7 +43,7 @@ pub(crate) fn put_text(json: &mut JsonText, octets: &[u8]) -> Result<(), AllocEr
     ensures { OnOk result (json.new ≡ json.old ++ json_tokens (text_json octets.now)) }
 {
     if are_clean(octets, b' ') {
-        return json.clean(unsafe { str::from_utf8_unchecked(octets) });
+        return json.clean_string(unsafe { str::from_utf8_unchecked(octets) });
     }
     put_any_text(json, octets)
 }

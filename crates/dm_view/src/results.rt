@@ -13,7 +13,7 @@ use std::fmt;
 pub struct ResultName(pub u32);
 
 /// The name of a Result-Code of a fault of AVPs.
-fn avp_result(code: u32) -> &'static str
+fn avp_result_name(code: u32) -> &'static str
     ensures { result.now ≡ avp_result code }
 {
     match code {
@@ -34,7 +34,7 @@ pub(crate) fn result_name(code: u32) -> &'static str
     match code {
         COMMAND_UNSUPPORTED => "DIAMETER_COMMAND_UNSUPPORTED",
         INVALID_HDR_BITS => "DIAMETER_INVALID_HDR_BITS",
-        _ => avp_result(code),
+        _ => avp_result_name(code),
     }
 }
 

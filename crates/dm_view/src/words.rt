@@ -62,11 +62,11 @@ pub(crate) fn put_octets_name(text: &mut String, octets: &[u8]) -> Result<(), Al
         // ASCII is UTF-8.
         return text.push_str(unsafe { str::from_utf8_unchecked(octets) });
     }
-    put_wide_name(text, octets)
+    put_name_or_hexadecimal(text, octets)
 }
 
 /// Appends a name that may be no ASCII.
-fn put_wide_name(text: &mut String, octets: &[u8]) -> Result<(), AllocError>
+fn put_name_or_hexadecimal(text: &mut String, octets: &[u8]) -> Result<(), AllocError>
     ensures { OnOk result (string_bytes text.new ≡ string_bytes text.old ++ name_text octets.now) }
 {
     match str::from_utf8(octets) {
@@ -86,7 +86,7 @@ pub(crate) fn put_octets(text: &mut String, octets: &[u8]) -> Result<(), AllocEr
 }
 
 /// Appends words, and octets in hexadecimal, `-` where there are none.
-pub(crate) fn put_octets_behind(
+pub(crate) fn put_words_and_octets(
     text: &mut String,
     words: &str,
     octets: &[u8],
@@ -129,12 +129,12 @@ pub(crate) fn put_indent(text: &mut String, levels: u32) -> Result<(), AllocErro
         1 => text.push_str("  "),
         2 => text.push_str("    "),
         3 => text.push_str("      "),
-        _ => put_levels(text, levels),
+        _ => put_many_indents(text, levels),
     }
 }
 
 /// Appends two spaces for each of many levels.
-fn put_levels(text: &mut String, levels: u32) -> Result<(), AllocError>
+fn put_many_indents(text: &mut String, levels: u32) -> Result<(), AllocError>
     ensures { OnOk result (string_bytes text.new ≡ string_bytes text.old ++ indented levels) }
 {
     let mut left = levels;

@@ -12,15 +12,17 @@ returns c =
     let avps = c.args.dictionary.now.avps in
     let f = told_at c.args.fault.now in
     let text = string_bytes c.args.text.now in
-    let code : string_bytes c.put_result.new.text ≡ text ++ (codes "  " ++ result_text f.fault.code)
-    = c.in_ok-put_result.ensures in
-    let groups : string_bytes c.put_path.new.text ≡ string_bytes c.put_result.new.text ++ flat_map (step_text avps) f.path
+    let code : string_bytes c.put_result_code.new.text ≡ text ++ (codes "  " ++ result_text f.fault.code)
+    = c.in_ok-put_result_code.ensures in
+    let groups : string_bytes c.put_path.new.text
+    ≡ string_bytes c.put_result_code.new.text ++ flat_map (step_text avps) f.path
     = c.in_ok-put_path.ensures
-    ∙ ap (λ p. string_bytes c.put_result.new.text ++ flat_map (step_text avps) p) c.as_slice.ensures in
-    let failed : string_bytes c.put_failed.new.text ≡ string_bytes c.put_path.new.text
+    ∙ ap (λ p. string_bytes c.put_result_code.new.text ++ flat_map (step_text avps) p) c.as_slice.ensures in
+    let failed : string_bytes c.put_failed_if_any.new.text ≡ string_bytes c.put_path.new.text
     ++ failed_view avps f.fault.code (failed_length f.fault.failed) (option_map without_data f.fault.failed)
-    = c.in_ok-put_failed.ensures
+    = c.in_ok-put_failed_if_any.ensures
     ∙ (λ i. string_bytes c.put_path.new.text
-    ++ failed_view avps f.fault.code (c.failed_length-length.ensures i) (c.front_of.ensures i)) in
-    let ended : string_bytes c.push_str.new.self ≡ string_bytes c.put_failed.new.text ++ 10 ∷ [] = search rules in
+    ++ failed_view avps f.fault.code (c.failed_length-length.ensures i) (c.failed_without_data.ensures i)) in
+    let ended : string_bytes c.push_str.new.self
+    ≡ string_bytes c.put_failed_if_any.new.text ++ 10 ∷ [] = search rules in
     rw (ended, failed, groups, code) (simp append_assoc)

@@ -11,8 +11,8 @@ decreases-put_avps l = 4 * l.depth + 3
 abbrev pub decreases-put_avp : goal.decreases-put_avp
 decreases-put_avp l = 4 * l.depth + 2
 
-abbrev pub decreases-put_behind : goal.decreases-put_behind
-decreases-put_behind l = 4 * l.depth + 1
+abbrev pub decreases-put_avp_data : goal.decreases-put_avp_data
+decreases-put_avp_data l = 4 * l.depth + 1
 
 abbrev pub decreases-put_group : goal.decreases-put_group
 decreases-put_group l = 4 * l.depth

@@ -6,8 +6,8 @@ use Rattle.dm_view.proofs.json_avps.put_defined_name.Goals as goal
 pub from_utf8_unchecked-requires : goal.from_utf8_unchecked-requires
 from_utf8_unchecked-requires c = clean_is_text 32 c.args.name.now (c.are_clean.ensures c.if-are_clean.true)
 
-pub clean_name-requires : goal.clean_name-requires
-clean_name-requires c =
+pub clean_name_member-requires : goal.clean_name_member-requires
+clean_name_member-requires c =
     let clean = c.are_clean.ensures c.if-are_clean.true in
     rw c.from_utf8_unchecked.ensures (clean_is_unescaped 32 c.args.name.now (omega arith) clean)
 
@@ -15,4 +15,4 @@ pub returns-then-are_clean : goal.returns-then-are_clean
 returns-then-are_clean c =
     let name = c.args.name.now in
     let text = clean_is_text 32 name (c.are_clean.ensures c.if-are_clean.true) in
-    rw (is_utf8-from_IsUtf8 name text, ← c.from_utf8_unchecked.ensures) c.clean_name.ensures
+    rw (is_utf8-from_IsUtf8 name text, ← c.from_utf8_unchecked.ensures) c.clean_name_member.ensures

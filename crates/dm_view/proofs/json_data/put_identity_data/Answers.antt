@@ -6,8 +6,8 @@ use Rattle.dm_view.proofs.json_data.put_identity_data.Goals as goal
 pub from_utf8_unchecked-requires : goal.from_utf8_unchecked-requires
 from_utf8_unchecked-requires c = clean_is_text 33 c.args.octets.now (c.are_clean.ensures c.if-are_clean.true)
 
-pub clean-requires : goal.clean-requires
-clean-requires c =
+pub clean_string-requires : goal.clean_string-requires
+clean_string-requires c =
     let clean = c.are_clean.ensures c.if-are_clean.true in
     rw c.from_utf8_unchecked.ensures (clean_is_unescaped 33 c.args.octets.now (omega arith) clean)
 
@@ -16,4 +16,4 @@ returns-then-are_clean c =
     let some = eqb-false _ 0 (sym c.is_empty.ensures ∙ c.if-is_empty.false) in
     let clean = c.are_clean.ensures c.if-are_clean.true in
     let is = clean_identity_json c.args.def.now c.args.octets.now c.requires (omega (arith, some)) clean in
-    rw (is, ← c.from_utf8_unchecked.ensures) c.clean.ensures
+    rw (is, ← c.from_utf8_unchecked.ensures) c.clean_string.ensures

@@ -5,8 +5,8 @@ use Rattle.dm_view.proofs.json_data.put_text_data.Goals as goal
 pub from_utf8_unchecked-requires : goal.from_utf8_unchecked-requires
 from_utf8_unchecked-requires c = clean_is_text 32 c.args.octets.now (c.are_clean.ensures c.if-are_clean.true)
 
-pub clean-requires : goal.clean-requires
-clean-requires c =
+pub clean_string-requires : goal.clean_string-requires
+clean_string-requires c =
     let clean = c.are_clean.ensures c.if-are_clean.true in
     rw c.from_utf8_unchecked.ensures (clean_is_unescaped 32 c.args.octets.now (omega arith) clean)
 
@@ -14,4 +14,4 @@ pub returns-then-are_clean : goal.returns-then-are_clean
 returns-then-are_clean c =
     let clean = c.are_clean.ensures c.if-are_clean.true in
     let is = clean_text_json c.args.def.now c.args.octets.now c.requires clean in
-    rw (is, ← c.from_utf8_unchecked.ensures) c.clean.ensures
+    rw (is, ← c.from_utf8_unchecked.ensures) c.clean_string.ensures

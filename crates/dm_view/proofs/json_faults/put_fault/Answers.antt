@@ -28,9 +28,10 @@ returns c =
     = c.in_ok-put_path.ensures
     ∙ ap (λ p. c.begin_array.new.self ++ items_tokens (path_items avps p)) c.as_slice.ensures in
     let size = failed_length f.fault.failed in
-    let failed : c.put_failed.new.json ≡ c.put_path.new.json
+    let failed : c.put_json_failed_if_any.new.json ≡ c.put_path.new.json
     ++ members_tokens (failed_members avps f.fault.code size (option_map without_data f.fault.failed))
-    = c.in_ok-put_failed.ensures
+    = c.in_ok-put_json_failed_if_any.ensures
     ∙ (λ i. c.put_path.new.json
-    ++ members_tokens (failed_members avps f.fault.code (c.failed_length-length.ensures i) (c.front_of.ensures i))) in
+    ++ members_tokens (failed_members avps f.fault.code (c.failed_length-length.ensures i)
+    (c.failed_without_data.ensures i))) in
     rw (failed, path, opened, named, name, code, begun) (simp append_assoc)

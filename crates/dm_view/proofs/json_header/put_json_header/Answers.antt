@@ -12,14 +12,15 @@ returns c =
     let h = c.args.header.now in
     let begun : c.begin_object.new.self ≡ c.args.json.now ++ begin_object ∷ [] = c.in_ok-begin_object.ensures in
     let named : c.key.new.self ≡ c.begin_object.new.self ++ key (codes "command") ∷ [] = c.in_ok-key.ensures in
-    let name : c.put_command.new.json ≡ c.key.new.self
+    let name : c.put_json_command_name.new.json ≡ c.key.new.self
     ++ json_tokens (command_json (command_of c.args.dictionary.now h))
-    = c.in_ok-put_command.ensures
+    = c.in_ok-put_json_command_name.ensures
     ∙ ap (λ o. c.key.new.self ++ json_tokens (command_json o)) c.command-def.ensures.found in
-    let code : c.number_member.new.self ≡ c.put_command.new.json
+    let code : c.number_member.new.self ≡ c.put_json_command_name.new.json
     ++ key (codes "code") ∷ number (decimal h.command) ∷ [] = c.in_ok-number_member.ensures in
     let flagged : c.key-2.new.self ≡ c.number_member.new.self ++ key (codes "flags") ∷ [] = c.in_ok-key-2.ensures in
-    let flags : c.put_flags.new.json ≡ c.key-2.new.self ++ json_tokens (header_words h) = c.in_ok-put_flags.ensures in
-    let ended : c.put_identifiers.new.json ≡ c.put_flags.new.json ++ members_tokens (identifiers h)
+    let flags : c.put_json_flag_words.new.json ≡ c.key-2.new.self ++ json_tokens (header_words h) =
+    c.in_ok-put_json_flag_words.ensures in
+    let ended : c.put_identifiers.new.json ≡ c.put_json_flag_words.new.json ++ members_tokens (identifiers h)
     = c.in_ok-put_identifiers.ensures in
     rw (ended, flags, flagged, code, name, named, begun) (simp append_assoc)

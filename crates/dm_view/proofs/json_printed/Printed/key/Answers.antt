@@ -5,8 +5,8 @@ use Rattle.dm_view.proofs.CleanOctets.{clean_is_unescaped}
 use Rattle.dm_view.proofs.JsonPrinted.{of_key, of_escaped_key}
 use Rattle.dm_view.proofs.json_printed.Printed.key.Goals as goal
 
-pub put_three-requires : goal.put_three-requires
-put_three-requires c =
+pub put_tokens_in_pieces-requires : goal.put_tokens_in_pieces-requires
+put_tokens_in_pieces-requires c =
     let name = c.args.name.now in
     let clean = clean_is_unescaped 32 _ (omega arith) (c.are_clean.ensures c.if-are_clean.true) in
     let plain : escape name ≡ name = rw c.as_bytes.ensures.value at clean in
@@ -17,18 +17,18 @@ returns-then-are_clean c =
     let name = c.args.name.now in
     let clean = clean_is_unescaped 32 _ (omega arith) (c.are_clean.ensures c.if-are_clean.true) in
     let plain : escape name ≡ name = rw c.as_bytes.ensures.value at clean in
-    c.put_three.ensures (key name ∷ []) (of_key name plain)
+    c.put_tokens_in_pieces.ensures (key name ∷ []) (of_key name plain)
 
 pub from_utf8_unchecked-text-requires : goal.from_utf8_unchecked-text-requires
 from_utf8_unchecked-text-requires c = rw c.as_slice.ensures.value c.in_ok-octets.ensures.text
 
-pub put_three-done-requires : goal.put_three-done-requires
-put_three-done-requires c =
+pub put_tokens_in_pieces-done-requires : goal.put_tokens_in_pieces-done-requires
+put_tokens_in_pieces-done-requires c =
     rw (c.from_utf8_unchecked-text.ensures, c.as_slice.ensures.value, c.in_ok-octets.ensures.quoted)
     (key c.args.name.now ∷ [], of_escaped_key c.args.name.now)
 
 pub returns : goal.returns
 returns c =
-    c.put_three-done.ensures (key c.args.name.now ∷ [])
+    c.put_tokens_in_pieces-done.ensures (key c.args.name.now ∷ [])
     (rw (c.from_utf8_unchecked-text.ensures, c.as_slice.ensures.value, c.in_ok-octets.ensures.quoted)
     (of_escaped_key c.args.name.now))

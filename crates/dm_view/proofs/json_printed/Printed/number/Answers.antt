@@ -5,8 +5,8 @@ use Rattle.json.specs.Token.{number}
 use Rattle.dm_view.proofs.JsonPrinted.{of_token}
 use Rattle.dm_view.proofs.json_printed.Printed.number.Goals as goal
 
-pub put-requires : goal.put-requires
-put-requires c =
+pub put_tokens-requires : goal.put_tokens-requires
+put_tokens-requires c =
     let n = c.args.value in
     rw c.format.ensures.text
     (number (decimal n) ∷ [], of_token (number (decimal n)) (IsNumber-decimal n c.ranges.value.fits))
@@ -14,5 +14,5 @@ put-requires c =
 pub returns : goal.returns
 returns c =
     let n = c.args.value in
-    c.put.ensures (number (decimal n) ∷ [])
+    c.put_tokens.ensures (number (decimal n) ∷ [])
     (rw c.format.ensures.text (of_token (number (decimal n)) (IsNumber-decimal n c.ranges.value.fits)))

@@ -5,8 +5,8 @@ use Rattle.json.specs.Token.{key, number}
 use Rattle.dm_view.proofs.JsonPrinted.{of_number_member}
 use Rattle.dm_view.proofs.json_printed.Printed.number_member.Goals as goal
 
-pub put_three-requires : goal.put_three-requires
-put_three-requires c =
+pub put_tokens_in_pieces-requires : goal.put_tokens_in_pieces-requires
+put_tokens_in_pieces-requires c =
     let n = c.args.value in
     let (k, is) = c.requires in
     let small : n < 2 ^ 64 = omega (arith, c.ranges.value.fits) in
@@ -19,6 +19,6 @@ pub returns : goal.returns
 returns c k is =
     let n = c.args.value in
     let small : n < 2 ^ 64 = omega (arith, c.ranges.value.fits) in
-    c.put_three.ensures (key k ∷ number (decimal n) ∷ [])
+    c.put_tokens_in_pieces.ensures (key k ∷ number (decimal n) ∷ [])
     (rw (c.format.ensures.text, c.from.ensures)
     (of_number_member c.args.name.now k (decimal n) is (IsNumber-decimal n small)))

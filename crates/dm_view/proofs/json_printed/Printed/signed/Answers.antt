@@ -6,8 +6,8 @@ use Rattle.json.specs.Token.{number}
 use Rattle.dm_view.proofs.JsonPrinted.{of_token}
 use Rattle.dm_view.proofs.json_printed.Printed.signed.Goals as goal
 
-pub put-requires : goal.put-requires
-put-requires c =
+pub put_tokens-requires : goal.put_tokens-requires
+put_tokens-requires c =
     let n = c.args.value in
     let good : IsNumber (signed_decimal n) = search (rules, IsNumber-signed_decimal) in
     let fits = c.ranges.value in
@@ -19,5 +19,5 @@ returns c =
     let n = c.args.value in
     let good : IsNumber (signed_decimal n) = search (rules, IsNumber-signed_decimal) in
     let fits = c.ranges.value in
-    c.put.ensures (number (signed_decimal n) ∷ [])
+    c.put_tokens.ensures (number (signed_decimal n) ∷ [])
     (rw (simp to_z-of_z at c.format.ensures.text) (of_token (number (signed_decimal n)) good))

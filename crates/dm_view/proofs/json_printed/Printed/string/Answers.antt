@@ -4,20 +4,20 @@ use Rattle.dm_view.proofs.CleanOctets.{clean_is_unescaped}
 use Rattle.dm_view.proofs.JsonPrinted.{of_token}
 use Rattle.dm_view.proofs.json_printed.Printed.string.Goals as goal
 
-pub clean-requires : goal.clean-requires
-clean-requires c =
+pub clean_string-requires : goal.clean_string-requires
+clean_string-requires c =
     rw c.as_bytes.ensures.value at (clean_is_unescaped 32 _ (omega arith) (c.are_clean.ensures c.if-are_clean.true))
 
 pub from_utf8_unchecked-text-requires : goal.from_utf8_unchecked-text-requires
 from_utf8_unchecked-text-requires c = rw c.as_slice.ensures.value c.in_ok-octets.ensures.text
 
-pub put-done-requires : goal.put-done-requires
-put-done-requires c =
+pub put_tokens-done-requires : goal.put_tokens-done-requires
+put_tokens-done-requires c =
     rw (c.from_utf8_unchecked-text.ensures, c.as_slice.ensures.value, c.in_ok-octets.ensures.quoted)
     (string c.args.text.now ∷ [], of_token (string c.args.text.now) tt)
 
 pub returns : goal.returns
 returns c =
-    c.put-done.ensures (string c.args.text.now ∷ [])
+    c.put_tokens-done.ensures (string c.args.text.now ∷ [])
     (rw (c.from_utf8_unchecked-text.ensures, c.as_slice.ensures.value, c.in_ok-octets.ensures.quoted)
     (of_token (string c.args.text.now) tt))

@@ -1,6 +1,6 @@
 use Rattle.std.proofs.Common.{append_assoc}
 use Rattle.dm_view.specs.Check.{check_view}
-use Rattle.dm_view.proofs.faults.put_checked.Goals as goal
+use Rattle.dm_view.proofs.faults.put_check_of_faults.Goals as goal
 
 pub returns-clause-shown : goal.returns-clause-shown
 unfolding check_view

@@ -1,7 +1,7 @@
 use Rattle.std.proofs.Common.{◌∙◌, codes, append_assoc}
 use Rattle.json.specs.Json.{no_items}
 use Rattle.dm_view.specs.JsonWords.{word_item}
-use Rattle.dm_view.proofs.json_header.put_flags.Goals as goal
+use Rattle.dm_view.proofs.json_header.put_json_flag_words.Goals as goal
 
 pub returns : goal.returns
 returns c =
