@@ -29,7 +29,7 @@ pub struct Counts {
 }
 
 /// How many messages there were.
-fn messages(tally: Tally) -> u64
+fn message_count(tally: Tally) -> u64
     ensures { result ≡ messages_in tally }
 {
     tally.good.saturating_add(tally.bad)
@@ -48,7 +48,7 @@ fn put_counts_words(text: &mut String, counts: Counts, tally: Tally) -> Result<(
     ensures { OnOk result (string_bytes text.new ≡ string_bytes text.old ++ counts_words counts tally) }
 {
     put_count(text, counts.connections, " connections, ")?;
-    put_count(text, messages(tally), " messages, ")?;
+    put_count(text, message_count(tally), " messages, ")?;
     put_count(text, tally.good, " good, ")?;
     put_count(text, tally.bad, " bad, ")?;
     put_count(text, counts.passed, " octets passed over, ")?;
@@ -72,7 +72,7 @@ fn put_counts_members(json: &mut JsonText, counts: Counts, tally: Tally) -> Resu
     ensures { OnOk result (json.new ≡ json.old ++ members_tokens (counts_members counts tally)) }
 {
     put_count_member(json, "connections", counts.connections)?;
-    put_count_member(json, "messages", messages(tally))?;
+    put_count_member(json, "messages", message_count(tally))?;
     put_count_member(json, "good", tally.good)?;
     put_count_member(json, "bad", tally.bad)?;
     put_lost_counts(json, counts)?;

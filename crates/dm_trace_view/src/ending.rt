@@ -11,7 +11,7 @@ use dm_view_lines::{Tally, Task};
 use std::alloc::{AllocError, Global};
 
 /// Why a capture is read no further, in words.
-fn words_of(kind: FaultKind) -> &'static str
+fn fault_words(kind: FaultKind) -> &'static str
     ensures { result.now ≡ why_words kind }
 {
     match kind {
@@ -34,7 +34,7 @@ fn put_fault_line(text: &mut String, fault: CaptureFault) -> Result<(), AllocErr
     text.push_str("octet ")?;
     put_decimal(text, fault.offset)?;
     text.push_str(": ")?;
-    text.push_str(words_of(fault.kind))?;
+    text.push_str(fault_words(fault.kind))?;
     text.push_str("\n")
 }
 
@@ -46,7 +46,7 @@ fn put_fault_json(alloc: Global, text: &mut String, fault: CaptureFault) -> Resu
     json.begin_object()?;
     json.key("octet")?;
     json.number(fault.offset)?;
-    json.text_member("error", words_of(fault.kind))?;
+    json.text_member("error", fault_words(fault.kind))?;
     json.end_object()?;
     json.put_line(text)
 }

@@ -45,7 +45,7 @@ enum Asked<'a> {
 }
 
 /// Whether two hosts are one, `A` to `Z` taken as `a` to `z`.
-fn is_host(one: &[u8], other: &[u8]) -> bool
+fn is_same_host(one: &[u8], other: &[u8]) -> bool
     ensures { result ≡ same_host one.now other.now }
 {
     one.eq_ignore_ascii_case(other)
@@ -59,25 +59,25 @@ fn has_code(avp: AvpRef<'_>, code: u32) -> bool
 }
 
 /// Whether an AVP says what is asked for.
-fn says(avp: AvpRef<'_>, asked: Asked<'_>) -> bool
+fn avp_says(avp: AvpRef<'_>, asked: Asked<'_>) -> bool
     ensures { result ≡ says_asked asked.entry (avp_of avp.entry) }
 {
     match asked {
         Asked::Host(host) => {
             (has_code(avp, ORIGIN_HOST) || has_code(avp, DESTINATION_HOST))
-                && is_host(avp.bytes, host)
+                && is_same_host(avp.bytes, host)
         }
         Asked::Session(session) => has_code(avp, SESSION_ID) && avp.bytes == session,
     }
 }
 
 /// Whether one of the AVPs says what is asked for.
-fn one_says(list: AvpsRef<'_>, asked: Asked<'_>) -> bool
+fn any_avp_says(list: AvpsRef<'_>, asked: Asked<'_>) -> bool
     ensures { (l : List Avp) → Lists list.entry l → result ≡ list_any (says_asked asked.entry) l }
 {
     let mut left = list;
     while let Some((avp, rest)) = left.split_first() {
-        if says(avp, asked) {
+        if avp_says(avp, asked) {
             return true;
         }
         left = rest;
@@ -85,32 +85,32 @@ fn one_says(list: AvpsRef<'_>, asked: Asked<'_>) -> bool
     false
 }
 
-/// Whether a message says what is asked for; one from which nothing is asked does.
+/// Whether a message says the host that is asked for; where none is, each message does.
 fn says_host(message: &MessageRef<'_>, host: Option<&[u8]>) -> bool
     ensures { (l : List Avp) → SpellsList l message.now.rest.now → result
         ≡ says_peer host.entry (record { header = message.now.header; avps = l }) }
 {
     spelled_are_members();
     match host {
-        Some(host) => one_says(AvpsRef::Spelled(message.rest), Asked::Host(host)),
+        Some(host) => any_avp_says(AvpsRef::Spelled(message.rest), Asked::Host(host)),
         None => true,
     }
 }
 
-/// The same of its Session-Id.
+/// Whether a message says the Session-Id that is asked for; where none is, each message does.
 fn says_session(message: &MessageRef<'_>, session: Option<&[u8]>) -> bool
     ensures { (l : List Avp) → SpellsList l message.now.rest.now → result
         ≡ tells_session session.entry (record { header = message.now.header; avps = l }) }
 {
     spelled_are_members();
     match session {
-        Some(session) => one_says(AvpsRef::Spelled(message.rest), Asked::Session(session)),
+        Some(session) => any_avp_says(AvpsRef::Spelled(message.rest), Asked::Session(session)),
         None => true,
     }
 }
 
 /// Whether a command has this name.
-fn is_named(dictionary: &Dictionary, header: &Header, name: &[u8]) -> bool
+fn is_command_named(dictionary: &Dictionary, header: &Header, name: &[u8]) -> bool
     ensures { result ≡ bears_name (command_of dictionary.now header.now) name.now }
 {
     match dictionary.command(header.command, header.request, false) {
@@ -125,12 +125,12 @@ fn says_command(dictionary: &Dictionary, header: &Header, wanted: Option<Wanted<
 {
     match wanted {
         Some(Wanted::Code(code)) => header.command == code,
-        Some(Wanted::Named(name)) => is_named(dictionary, header, name),
+        Some(Wanted::Named(name)) => is_command_named(dictionary, header, name),
         None => true,
     }
 }
 
-/// Whether something is wrong with it.
+/// Whether something is wrong with a message.
 fn is_bad(dictionary: &Dictionary, message: &MessageRef<'_>) -> bool
     ensures { (l : List Avp) → SpellsList l message.now.rest.now → result
         ≡ not (has_none (faults dictionary.now (record { header = message.now.header; avps = l }))) }
@@ -139,7 +139,11 @@ fn is_bad(dictionary: &Dictionary, message: &MessageRef<'_>) -> bool
 }
 
 /// Whether a message says all that is asked for.
-fn passes_message(filter: Filter<'_>, dictionary: &Dictionary, message: &MessageRef<'_>) -> bool
+fn message_passes_filter(
+    filter: Filter<'_>,
+    dictionary: &Dictionary,
+    message: &MessageRef<'_>,
+) -> bool
     ensures { (l : List Avp) → SpellsList l message.now.rest.now → result
         ≡ says_all filter.entry dictionary.now (record { header = message.now.header; avps = l }) }
 {
@@ -150,11 +154,11 @@ fn passes_message(filter: Filter<'_>, dictionary: &Dictionary, message: &Message
 }
 
 /// Whether something is said of these octets. It never answers want of memory.
-pub(crate) fn passes(filter: Filter<'_>, dictionary: &Dictionary, octets: &[u8]) -> bool
+pub(crate) fn passes_filter(filter: Filter<'_>, dictionary: &Dictionary, octets: &[u8]) -> bool
     ensures { PassesFilter filter.entry dictionary.now octets.now result }
 {
     match MessageRef::read(octets) {
-        Ok(message) => passes_message(filter, dictionary, &message),
+        Ok(message) => message_passes_filter(filter, dictionary, &message),
         Err(_) => filter.host.is_none() && filter.session.is_none() && filter.command.is_none(),
     }
 }

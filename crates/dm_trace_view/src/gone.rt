@@ -32,7 +32,7 @@ fn put_let_go<C: TwoWay>(
 }
 
 /// Lets connections go as long as more is held than may be, tells each, and counts their octets as passed over.
-pub(crate) fn put_gone<C: TwoWay>(
+pub(crate) fn let_go_past_limits<C: TwoWay>(
     alloc: Global,
     text: &mut String,
     hearing: Hearing<'_>,

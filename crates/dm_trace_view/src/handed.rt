@@ -5,7 +5,7 @@ ghost use Rattle.dm_view_lines.specs.Counts.{tallied, tally_of};
 ghost use Rattle.dm_trace_view.specs.Handed.{SaysOne, SaysHanded};
 ghost use Rattle.dm_trace_view.specs.Talks.{talk_of};
 
-use crate::filter::{Filter, passes};
+use crate::filter::{Filter, passes_filter};
 use crate::front::SeenFront;
 use dm_connections::{Connections, Ends, TwoWay};
 use dm_dict::{Dictionary, NoMemory};
@@ -37,8 +37,8 @@ pub(crate) struct Saying<'a> {
     pub(crate) filter: Filter<'a>,
 }
 
-/// Those before, and one more.
-fn one_more(tally: Tally, good: bool) -> Option<Tally>
+/// The tally with one more message, good or bad; `None` where it is beyond what can be counted.
+fn tally_with_one_more(tally: Tally, good: bool) -> Option<Tally>
     ensures { IfSome result (λ counted. counted ≡ tallied tally (tally_of (Some good))) }
 {
     if good {
@@ -54,19 +54,19 @@ fn one_more(tally: Tally, good: bool) -> Option<Tally>
     }
 }
 
-/// One more message that is said, good or bad.
-fn counted(before: Numbered, messages: u64, good: bool) -> Result<Numbered, NoMemory>
+/// What was counted, with so many messages and one more of them said, good or bad.
+fn with_said_message(before: Numbered, messages: u64, good: bool) -> Result<Numbered, NoMemory>
     ensures { IfOk result (λ after. after
         ≡ record before { messages = messages; tally = tallied before.tally (tally_of (Some good)) }) }
 {
-    match one_more(before.tally, good) {
+    match tally_with_one_more(before.tally, good) {
         Some(tally) => Ok(Numbered { messages, tally }),
         None => Err(NoMemory),
     }
 }
 
 /// Numbers a message behind those that were handed out, and says and counts it where it passes the filter.
-fn put_seen(
+fn put_numbered_message(
     alloc: Global,
     text: &mut String,
     dictionary: &Dictionary,
@@ -81,7 +81,7 @@ fn put_seen(
     let Some(number) = before.messages.checked_add(1) else {
         return Err(NoMemory);
     };
-    if !passes(saying.filter, dictionary, message) {
+    if !passes_filter(saying.filter, dictionary, message) {
         return Ok(Numbered {
             messages: number,
             tally: before.tally,
@@ -93,11 +93,11 @@ fn put_seen(
         seen: direction.seen,
     };
     let good = put_octets(alloc, text, dictionary, saying.task, &front, message)?;
-    counted(before, number, good)
+    with_said_message(before, number, good)
 }
 
 /// Says the whole messages that are handed out in one direction.
-pub(crate) fn put_handed<C: TwoWay>(
+pub(crate) fn put_handed_messages<C: TwoWay>(
     alloc: Global,
     text: &mut String,
     dictionary: &Dictionary,
@@ -118,7 +118,7 @@ pub(crate) fn put_handed<C: TwoWay>(
         let Some(message) = handed else {
             return Ok(so_far);
         };
-        let said = put_seen(
+        let said = put_numbered_message(
             alloc,
             text,
             dictionary,

@@ -6,8 +6,8 @@ ghost use Rattle.dm_trace_view.specs.Traces.{counted_sent, with_unread, unread_i
 ghost use Rattle.dm_trace_view.specs.Traces.{lost_between, passed_text, secured_text, unread_text, SaysSent};
 
 use crate::counts::Counts;
-use crate::gone::put_gone;
-use crate::handed::put_handed;
+use crate::gone::let_go_past_limits;
+use crate::handed::put_handed_messages;
 use crate::hearing::{Hearing, Reckoned};
 use crate::lost::{Lost, LostIn, put_lost};
 use dm_connections::{Connections, Ends, Takes, TwoWay};
@@ -40,7 +40,7 @@ impl Unread {
 }
 
 /// Counts octets that aren't read.
-fn counted_unread(counts: Counts, unread: Unread) -> Counts
+fn counts_with_unread(counts: Counts, unread: Unread) -> Counts
     ensures { result ≡ with_unread unread counts }
 {
     Counts {
@@ -51,10 +51,10 @@ fn counted_unread(counts: Counts, unread: Unread) -> Counts
 }
 
 /// Counts what is sent on a connection that is held or else new, and octets that aren't read.
-fn with_sent(counts: Counts, held: Option<Ends>, unread: Unread) -> Counts
+fn counts_with_sent(counts: Counts, held: Option<Ends>, unread: Unread) -> Counts
     ensures { result ≡ counted_sent held unread counts }
 {
-    let counts = counted_unread(counts, unread);
+    let counts = counts_with_unread(counts, unread);
     match held {
         Some(_) => counts,
         None => Counts {
@@ -88,7 +88,7 @@ fn unread_so_far<C: TwoWay>(connections: &Connections<C>, held: Option<Ends>) ->
 }
 
 /// Appends what was lost of what is sent between these ends.
-fn put_between(
+fn put_lost_between(
     alloc: Global,
     text: &mut String,
     hearing: Hearing<'_>,
@@ -121,7 +121,7 @@ fn put_passed(
     if before >= after {
         return Ok(());
     }
-    put_between(alloc, text, hearing, between, Lost::Passed(after - before))
+    put_lost_between(alloc, text, hearing, between, Lost::Passed(after - before))
 }
 
 /// Appends how many octets of Diameter over DTLS came, where they are the first.
@@ -139,7 +139,7 @@ fn put_secured(
     if before != 0 || after == 0 {
         return Ok(());
     }
-    put_between(alloc, text, hearing, between, Lost::Secured(after))
+    put_lost_between(alloc, text, hearing, between, Lost::Secured(after))
 }
 
 /// Appends what is told of octets that aren't read.
@@ -159,7 +159,8 @@ fn put_unread(
     Ok(())
 }
 
-/// Says what the connection of what is sent says, where it is looked at.
+/// Gives what is sent to its connection, where that is looked at, and says the messages that it hands out then, and
+/// what is lost.
 pub(crate) fn put_sent<S: Copy, C: Takes<S>>(
     alloc: Global,
     text: &mut String,
@@ -183,7 +184,7 @@ pub(crate) fn put_sent<S: Copy, C: Takes<S>>(
     };
     let direction = hearing.direction(between, ends);
     let saying = hearing.saying();
-    let numbered = put_handed(
+    let numbered = put_handed_messages(
         alloc,
         text,
         dictionary,
@@ -194,8 +195,8 @@ pub(crate) fn put_sent<S: Copy, C: Takes<S>>(
     )?;
     let now = unread_so_far(connections, Some(ends));
     put_unread(alloc, text, hearing, between, ago, now)?;
-    let counts = with_sent(before.counts, held, now.since(ago));
-    let lost = put_gone(alloc, text, hearing, connections, counts.passed)?;
+    let counts = counts_with_sent(before.counts, held, now.since(ago));
+    let lost = let_go_past_limits(alloc, text, hearing, connections, counts.passed)?;
     Ok(Reckoned {
         numbered,
         counts: Counts {

@@ -31,7 +31,7 @@ pub(crate) struct Reckoned {
 }
 
 /// Whether both are the same end.
-fn is_same(one: Endpoint, other: Endpoint) -> bool
+fn is_same_end(one: Endpoint, other: Endpoint) -> bool
     ensures { result ≡ same_end one other }
 {
     one == other
@@ -69,7 +69,7 @@ impl<'a> Hearing<'a> {
             clock: self.clock,
             seen: self.seen(between),
             ends,
-            from_first: is_same(between.first, ends.first),
+            from_first: is_same_end(between.first, ends.first),
         }
     }
 }

@@ -51,7 +51,7 @@ fn put_packet<S: PacketSpeaker, W: Write>(
 }
 
 /// Says all whole packets that the capture holds, and gathers that. It tells the fault that stands behind them.
-pub(crate) fn put_held<S: PacketSpeaker, W: Write>(
+pub(crate) fn put_held_packets<S: PacketSpeaker, W: Write>(
     alloc: Global,
     dictionary: &Dictionary,
     style: Style,
@@ -79,14 +79,14 @@ pub(crate) fn put_held<S: PacketSpeaker, W: Write>(
                 put?;
             }
             Ok(None) => return Ok(None),
-            Err(fault) => return fault_of(fault),
+            Err(fault) => return fault_or_want_of_memory(fault),
         }
     }
     Err(PutFault::Memory)
 }
 
 /// A fault of the capture, or want of memory.
-fn fault_of(fault: CaptureFault) -> Result<Option<CaptureFault>, PutFault>
+fn fault_or_want_of_memory(fault: CaptureFault) -> Result<Option<CaptureFault>, PutFault>
     ensures fault { IfOk result (λ told. (told ≡ Some fault) × (fault.kind ≢ FaultKind.OutOfMemory)) }
     ensures memory { IfErr result (λ put. put ≡ Memory) }
 {

@@ -7,7 +7,7 @@ ghost use Rattle.dm_trace_view.specs.Feeds.{ReadsPiece, ReadsNoPiece, FileEnds};
 ghost use Rattle.dm_trace_view.specs.Packets.{TellsHeld, StopsHeld};
 ghost use Rattle.dm_trace_view.specs.Runs.{SaysFile, StopsFile};
 
-use crate::packets::{Output, put_held};
+use crate::packets::{Output, put_held_packets};
 use crate::speaker::PacketSpeaker;
 use dm_capture::laws::pieces_join;
 use dm_capture::{CaptureFault, CaptureReader};
@@ -18,7 +18,11 @@ use std::alloc::Global;
 use std::io::{BufRead, Error, ErrorKind, Write};
 
 /// Writes what waits though the run stops by this fault, unless it was a write that failed. It tells why the run stops.
-fn write_behind<W: Write>(fault: PutFault, output: &mut Output, writer: &mut W) -> PutFault
+fn write_waiting_after_fault<W: Write>(
+    fault: PutFault,
+    output: &mut Output,
+    writer: &mut W,
+) -> PutFault
     ensures { Settles (Err fault) (Err result) (W.contents writer.old) (W.contents writer.new) output.old.waits.items }
 {
     match fault {
@@ -31,7 +35,7 @@ fn write_behind<W: Write>(fault: PutFault, output: &mut Output, writer: &mut W) 
 }
 
 /// Says all whole packets that the capture holds, and writes that. It tells the fault that stands behind them.
-fn say_held<S: PacketSpeaker, W: Write>(
+fn write_held_packets<S: PacketSpeaker, W: Write>(
     alloc: Global,
     dictionary: &Dictionary,
     style: Style,
@@ -52,17 +56,17 @@ fn say_held<S: PacketSpeaker, W: Write>(
         (W.contents writer.new) []) }
 {
     gathered_texts();
-    match put_held(alloc, dictionary, style, speaker, capture, output, writer) {
+    match put_held_packets(alloc, dictionary, style, speaker, capture, output, writer) {
         Ok(fault) => {
             write_waiting(&mut output.waits, writer)?;
             Ok(fault)
         }
-        Err(fault) => Err(write_behind(fault, output, writer)),
+        Err(fault) => Err(write_waiting_after_fault(fault, output, writer)),
     }
 }
 
-/// An interrupted read is made again.
-fn none_read(error: Error) -> Result<bool, RunFault>
+/// What is answered where a read fails: false where it was interrupted, so that it is made again.
+fn answer_read_error(error: Error) -> Result<bool, RunFault>
     ensures again { IfOk result (λ end. end ≡ false) }
     ensures failed { IfErr result (λ fault. fault ≡ RunFault.Read error) }
 {
@@ -73,14 +77,14 @@ fn none_read(error: Error) -> Result<bool, RunFault>
 }
 
 /// Feeds what the reader has at hand. True at its end.
-fn feed_ready<R: BufRead>(capture: &mut CaptureReader, reader: &mut R) -> Result<bool, RunFault>
+fn feed_piece<R: BufRead>(capture: &mut CaptureReader, reader: &mut R) -> Result<bool, RunFault>
     ensures fed { IfOk result (ReadsPiece capture.old (R.remaining reader.old) capture.new (R.remaining reader.new)) }
     ensures none { IfErr result (λ fault. ReadsNoPiece fault capture.old (R.remaining reader.old) capture.new
         (R.remaining reader.new)) }
 {
     let octets = match reader.fill_buf() {
         Ok(octets) => octets,
-        Err(error) => return none_read(error),
+        Err(error) => return answer_read_error(error),
     };
     let size = octets.len();
     if capture.feed(octets).is_err() {
@@ -91,7 +95,7 @@ fn feed_ready<R: BufRead>(capture: &mut CaptureReader, reader: &mut R) -> Result
 }
 
 /// What is wrong where the file ends.
-fn end_of(capture: &CaptureReader) -> Option<CaptureFault>
+fn fault_at_end(capture: &CaptureReader) -> Option<CaptureFault>
     ensures { FileEnds capture.now result }
 {
     match capture.end() {
@@ -101,7 +105,7 @@ fn end_of(capture: &CaptureReader) -> Option<CaptureFault>
 }
 
 /// Says the packets of a capture that a reader gives. It tells the fault up to which they are said.
-pub(crate) fn say_pieces<S: PacketSpeaker, R: BufRead, W: Write>(
+pub(crate) fn say_packets<S: PacketSpeaker, R: BufRead, W: Write>(
     alloc: Global,
     dictionary: &Dictionary,
     style: Style,
@@ -123,13 +127,13 @@ pub(crate) fn say_pieces<S: PacketSpeaker, R: BufRead, W: Write>(
     pieces_join();
     gathered_texts();
     for _ in 0..u64::MAX {
-        let fault = say_held(alloc, dictionary, style, speaker, capture, output, writer)?;
+        let fault = write_held_packets(alloc, dictionary, style, speaker, capture, output, writer)?;
         if fault.is_some() {
             return Ok(fault);
         }
-        let ended = feed_ready(capture, reader)?;
+        let ended = feed_piece(capture, reader)?;
         if ended {
-            return Ok(end_of(capture));
+            return Ok(fault_at_end(capture));
         }
     }
     Err(RunFault::Read(Error::from(ErrorKind::TimedOut)))

@@ -15,7 +15,7 @@ use crate::handed::Numbered;
 use crate::hearing::Reckoned;
 use crate::looks::Looks;
 use crate::packets::Output;
-use crate::pieces::say_pieces;
+use crate::pieces::say_packets;
 use crate::trace::TraceSpeaker;
 use dm_associations::Associations;
 use dm_capture::{CaptureFault, CaptureReader};
@@ -28,8 +28,8 @@ use std::alloc::{AllocError, Global};
 use std::hash::RandomState;
 use std::io::{BufRead, Write};
 
-/// Nothing was seen yet.
-fn trace_of<'a>(
+/// A speaker that saw nothing yet.
+fn new_trace_speaker<'a>(
     alloc: Global,
     keys: RandomState,
     looks: Looks<'a>,
@@ -57,8 +57,8 @@ fn trace_of<'a>(
     })
 }
 
-/// Lets all connections go, and counts the octets that came and weren't handed out, behind so many.
-fn with_pending<C: TwoWay>(connections: &mut Connections<C>, counted: u64) -> u64
+/// Lets all connections go, and counts the octets of them that came and weren't handed out, on top of so many.
+fn let_all_go<C: TwoWay>(connections: &mut Connections<C>, counted: u64) -> u64
     ensures { result ≡ more_of counted (all_octets C.pending_in connections.old.held) }
 {
     let mut so_far = counted;
@@ -70,13 +70,13 @@ fn with_pending<C: TwoWay>(connections: &mut Connections<C>, counted: u64) -> u6
 }
 
 /// What was counted, with what is held at the end. Nothing is held then.
-fn counts_of(speaker: &mut TraceSpeaker<'_>) -> Counts
+fn take_final_counts(speaker: &mut TraceSpeaker<'_>) -> Counts
     ensures { result ≡ counts_behind speaker.old }
 {
     let counts = speaker.reckoned.counts;
-    let passed = with_pending(&mut speaker.connections, counts.passed);
+    let passed = let_all_go(&mut speaker.connections, counts.passed);
     Counts {
-        passed: with_pending(&mut speaker.associations, passed),
+        passed: let_all_go(&mut speaker.associations, passed),
         ..counts
     }
 }
@@ -124,7 +124,7 @@ pub fn say_capture<R: BufRead, W: Write>(
         (R.remaining reader.new) (W.contents writer.old) (W.contents writer.new)) }
 {
     gathered_texts();
-    let mut speaker = match trace_of(alloc, keys, looks) {
+    let mut speaker = match new_trace_speaker(alloc, keys, looks) {
         Ok(speaker) => speaker,
         Err(_) => return Err(RunFault::Memory),
     };
@@ -133,7 +133,7 @@ pub fn say_capture<R: BufRead, W: Write>(
         text: String::new(alloc),
         waits: Vec::new(alloc),
     };
-    let said = say_pieces(
+    let said = say_packets(
         alloc,
         dictionary,
         style,
@@ -144,7 +144,7 @@ pub fn say_capture<R: BufRead, W: Write>(
         writer,
     );
     let tally = speaker.reckoned.numbered.tally;
-    let counts = counts_of(&mut speaker);
+    let counts = take_final_counts(&mut speaker);
     drop(speaker);
     drop(capture);
     drop(output);

@@ -33,8 +33,8 @@ pub(crate) struct TraceSpeaker<'a> {
     pub(crate) reckoned: Reckoned,
 }
 
-/// Counts a packet that has neither.
-fn count_passed(counts: Counts, why: Passed) -> Counts
+/// Counts a packet that has neither a segment nor chunks: a fragment, or one that was captured in part.
+fn counts_with_passed(counts: Counts, why: Passed) -> Counts
     ensures { result ≡ counted_passed why counts }
 {
     match why {
@@ -51,7 +51,7 @@ fn count_passed(counts: Counts, why: Passed) -> Counts
 }
 
 /// Whether a packet has no segment since it carries another protocol.
-fn is_other(why: Passed) -> bool
+fn is_other_protocol(why: Passed) -> bool
     ensures { result ≡ carries_other why }
 {
     matches!(why, Passed::OtherProtocol)
@@ -128,15 +128,15 @@ impl<'a> TraceSpeaker<'a> {
         Ok(())
     }
 
-    /// Counts a packet that has neither.
-    fn pass(&mut self, why: Passed)
+    /// Counts a packet that has neither a segment nor chunks.
+    fn count_passed_packet(&mut self, why: Passed)
         ensures { self.new ≡ with_passed self.old why }
     {
-        self.reckoned.counts = count_passed(self.reckoned.counts, why);
+        self.reckoned.counts = counts_with_passed(self.reckoned.counts, why);
     }
 
     /// Says what the association of a packet says that has no segment, where it has chunks; else it is counted.
-    fn put_other(
+    fn put_sctp_or_count(
         &mut self,
         alloc: Global,
         dictionary: &Dictionary,
@@ -150,7 +150,7 @@ impl<'a> TraceSpeaker<'a> {
         match sctp_of(packet.link, packet.octets.as_slice()) {
             Ok(carried) => self.put_sctp(alloc, dictionary, task, packet, carried, text),
             Err(why) => {
-                self.pass(why);
+                self.count_passed_packet(why);
                 Ok(())
             }
         }
@@ -173,9 +173,11 @@ impl PacketSpeaker for TraceSpeaker<'_> {
         self.first = first_time(self.first, packet.time);
         match segment_of(packet.link, packet.octets.as_slice()) {
             Ok(segment) => self.put_segment(alloc, dictionary, task, packet, segment, text),
-            Err(why) if is_other(why) => self.put_other(alloc, dictionary, task, packet, text),
+            Err(why) if is_other_protocol(why) => self.put_sctp_or_count(
+                alloc, dictionary, task, packet, text,
+            ),
             Err(why) => {
-                self.pass(why);
+                self.count_passed_packet(why);
                 Ok(())
             }
         }

@@ -12,5 +12,5 @@ returns c =
       c.in_ok-put_count-3.ensures,
       c.in_ok-put_count-2.ensures,
       c.in_ok-put_count.ensures,
-      c.messages.ensures,
+      c.message_count.ensures,
     ) (simp append_assoc)

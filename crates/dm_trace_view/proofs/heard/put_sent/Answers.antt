@@ -12,7 +12,8 @@ returns-in_default g c =
 
 pub returns : goal.returns
 returns g c =
-    let Counted : Unread → Type 0 = λ n. c.with_sent-counts.result ≡ counted_sent c.find-held.result n c.args.before.counts in
+    let Counted : Unread → Type 0 =
+    λ n. c.counts_with_sent-counts.result ≡ counted_sent c.find-held.result n c.args.before.counts in
     heard _ _ _ _ _ _ _ _ _ _ _ _ (record {
       by = c.ends_of-between.result;
       by_is = c.ends_of-between.ensures;
@@ -26,15 +27,15 @@ returns g c =
       max = c.take.ensures.max;
       direction = c.direction-direction.result;
       direction_is = c.direction-direction.ensures;
-      handed = c.put_handed.new.connections;
-      told = string_bytes c.put_handed.new.text;
+      handed = c.put_handed_messages.new.connections;
+      told = string_bytes c.put_handed_messages.new.text;
       says = rw c.saying-saying.ensures at c.in_ok-numbered.ensures;
       now = c.unread_so_far-now.result;
       now_is = c.unread_so_far-now.ensures;
       passed = string_bytes c.put_unread.new.text;
       passed_is = c.in_ok-put_unread.ensures;
-      counted = c.with_sent-counts.result;
-      counted_is = subst Counted c.since.ensures c.with_sent-counts.ensures;
+      counted = c.counts_with_sent-counts.result;
+      counted_is = subst Counted c.since.ensures c.counts_with_sent-counts.ensures;
       lets = c.in_ok-lost.ensures;
       counts = refl;
     })

@@ -8,8 +8,9 @@ returns-in-Err c =
     let none = rw c.as_slice.ensures.value at c.in-Err.ensures.none in
     record {
       said = packet_other c.args.task c.args.dictionary.now c.args.self.now (captured_of c.args.packet.now) c.in-Err.why
-          c.first_time-self.result c.put_other.result c.put_other.new.self _ _ c.first_time-self.ensures none
-          (sym c.is_other.ensures ∙ c.if-is_other.true) c.put_other.ensures;
+          c.first_time-self.result c.put_sctp_or_count.result c.put_sctp_or_count.new.self _ _
+          c.first_time-self.ensures none
+          (sym c.is_other_protocol.ensures ∙ c.if-is_other_protocol.true) c.put_sctp_or_count.ensures;
     }
 
 pub returns-in-Err-2 : goal.returns-in-Err-2
@@ -18,5 +19,5 @@ returns-in-Err-2 c =
     record {
       said = packet_passed c.args.task c.args.dictionary.now c.args.self.now (captured_of c.args.packet.now) c.in-Err.why
           c.first_time-self.result _ _ c.first_time-self.ensures none
-          (sym c.is_other.ensures ∙ c.if-is_other.false) c.pass.ensures;
+          (sym c.is_other_protocol.ensures ∙ c.if-is_other_protocol.false) c.count_passed_packet.ensures;
     }

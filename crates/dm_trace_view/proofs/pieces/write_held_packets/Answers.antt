@@ -1,6 +1,6 @@
 use Rattle.std.proofs.Common.{[]}
 use Rattle.dm_trace_view.proofs.Saying.{gathering, handed_on, held-unwritten, stops-settled, unwaiting, unwaiting-stops}
-use Rattle.dm_trace_view.proofs.pieces.say_held.Goals as goal
+use Rattle.dm_trace_view.proofs.pieces.write_held_packets.Goals as goal
 
 pub returns-in_err-write_waiting-in-Ok-clause-stopped :
     goal.returns-in_err-write_waiting-in-Ok-clause-stopped
@@ -16,4 +16,4 @@ returns-in-Err-clause-stopped g c =
     let e = c.gathered_texts.ensures in
     let laws = gathering e.nothing e.turns e.writes e.fails e.leaves_nothing e.leaves in
     stops-settled _ _ laws _ _ _ _ _ _ _ [] _ (unwaiting-stops _ _ _ _ _ _ _ _ _ c.requires.none c.in-Err.ensures.stopped)
-    c.write_behind.ensures
+    c.write_waiting_after_fault.ensures

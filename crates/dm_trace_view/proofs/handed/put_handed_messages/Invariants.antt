@@ -2,7 +2,7 @@ use Rattle.std.proofs.Common.{◌≡◌, ◌++◌, ℕ, List}
 use Rattle.std.specs.String.{string_bytes}
 use Rattle.dm_trace_view.specs.Handed.{HandsNext, SaysOne, SaysSome}
 use Rattle.dm_trace_view.specs.Talks.{talk_of}
-use Rattle.dm_trace_view.proofs.handed.put_handed.Given as goal
+use Rattle.dm_trace_view.proofs.handed.put_handed_messages.Given as goal
 
 -- these messages were handed out so far, and this is said of them
 abbrev pub invariant-loop : goal.invariant-loop

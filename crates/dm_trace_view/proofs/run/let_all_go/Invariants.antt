@@ -1,7 +1,7 @@
 use Rattle.std.proofs.Common.{◌≡◌, ◌<◌, ◌^◌, length}
 use Rattle.dm_connections.specs.Held.{all_octets}
 use Rattle.dm_trace_view.specs.Traces.{more_of}
-use Rattle.dm_trace_view.proofs.run.with_pending.Given as goal
+use Rattle.dm_trace_view.proofs.run.let_all_go.Given as goal
 
 -- what was counted, with what is still held
 abbrev pub invariant-loop-gone : goal.invariant-loop-gone

@@ -2,7 +2,7 @@ use Rattle.std.proofs.Common.{ap, sym, Ok, ◌∙◌}
 use Rattle.dm_capture.specs.Captures.{Progress}
 use Rattle.dm_trace_view.proofs.Files.{run_on, on_given, file_on, file_ends, file_fed, file_end, file_stops, file_unfed, none_there}
 use Rattle.dm_trace_view.proofs.Saying.{gathering}
-use Rattle.dm_trace_view.proofs.pieces.say_pieces.Goals as goal
+use Rattle.dm_trace_view.proofs.pieces.say_packets.Goals as goal
 
 pub returns-in_err-fault-clause-stopped : goal.returns-in_err-fault-clause-stopped
 returns-in_err-fault-clause-stopped g c =
@@ -38,7 +38,7 @@ returns-then-ended-clause-told g c =
     let fed = c.in_ok-ended.ensures.fed in
     file_end _ _ laws c.pieces_join.ensures.joins c.pieces_join.ensures.stays _ _ _ _ _ _ _ _
     (file_fed _ _ laws c.pieces_join.ensures.joins c.pieces_join.ensures.stays _ _ _ _ _ _ _ _ _ _ so fed)
-    (on_given _ _ _ _ so.read (fed.ends c.if-ended.true).1) c.end_of.ensures
+    (on_given _ _ _ _ so.read (fed.ends c.if-ended.true).1) c.fault_at_end.ensures
 
 pub loop-preserved : goal.loop-preserved
 loop-preserved g c =

@@ -1,7 +1,7 @@
 use Rattle.std.proofs.Common.{◌≡◌, None}
 use Rattle.dm_view_lines.specs.Colours.{styled}
 use Rattle.dm_trace_view.proofs.Saying.{SoHeld}
-use Rattle.dm_trace_view.proofs.packets.put_held.Given as goal
+use Rattle.dm_trace_view.proofs.packets.put_held_packets.Given as goal
 
 -- the packets that were handed out so far are said
 abbrev pub invariant-loop : goal.invariant-loop

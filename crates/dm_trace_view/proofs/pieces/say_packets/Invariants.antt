@@ -1,7 +1,7 @@
 use Rattle.std.proofs.Common.{◌≡◌, [], None}
 use Rattle.dm_view_lines.specs.Colours.{styled}
 use Rattle.dm_trace_view.proofs.Files.{SoFile}
-use Rattle.dm_trace_view.proofs.pieces.say_pieces.Given as goal
+use Rattle.dm_trace_view.proofs.pieces.say_packets.Given as goal
 
 -- what was read so far is said and written
 abbrev pub invariant-loop : goal.invariant-loop

@@ -3,7 +3,7 @@ use Rattle.std.proofs.lemmas.Bool.{false≢true}
 use Rattle.dm_connections.specs.declared.ends.Ends.{Ends}
 use Rattle.dm_trace_view.specs.Traces.{gone_text}
 use Rattle.dm_trace_view.proofs.Letting.{GoesOn, goes_none, goes_next, goes_end}
-use Rattle.dm_trace_view.proofs.gone.put_gone.Goals as goal
+use Rattle.dm_trace_view.proofs.gone.let_go_past_limits.Goals as goal
 
 pub loop-alloc-init : goal.loop-alloc-init
 loop-alloc-init g c =

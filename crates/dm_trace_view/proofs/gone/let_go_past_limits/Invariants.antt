@@ -2,7 +2,7 @@ use Rattle.std.proofs.Common.{◌≡◌, ◌++◌, ℕ, List, length}
 use Rattle.std.specs.String.{string_bytes}
 use Rattle.dm_connections.specs.declared.ends.Ends.{Ends}
 use Rattle.dm_trace_view.proofs.Letting.{GoesOn}
-use Rattle.dm_trace_view.proofs.gone.put_gone.Given as goal
+use Rattle.dm_trace_view.proofs.gone.let_go_past_limits.Given as goal
 
 -- these connections were let go so far
 abbrev pub invariant-loop-alloc : goal.invariant-loop-alloc

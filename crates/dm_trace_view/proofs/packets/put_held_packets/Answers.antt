@@ -2,7 +2,7 @@ use Rattle.std.proofs.Common.{[], ◌∙◌, refl}
 use Rattle.dm_view_lines.specs.declared.put_fault.PutFault.TheVariants.{Memory}
 use Rattle.dm_trace_view.proofs.Holding.{lead-fault, holds_next, holds_stops, holds_end, holds_fault, holds_none}
 use Rattle.dm_trace_view.proofs.Saying.{gathering, handed_on, so_none, so_stops_here}
-use Rattle.dm_trace_view.proofs.packets.put_held.Goals as goal
+use Rattle.dm_trace_view.proofs.packets.put_held_packets.Goals as goal
 
 pub loop-init : goal.loop-init
 loop-init g c =
@@ -48,15 +48,15 @@ returns-in-Err-clause-told g c =
     let e = c.gathered_texts.ensures in
     let laws = gathering e.nothing e.turns e.writes e.fails e.leaves_nothing e.leaves in
     let hands = c.in-Err.ensures.hands c.loop.invariant.sound in
-    holds_fault _ _ laws c.pieces_join.ensures.joins c.fault_of.result c.in-Err.fault _ _ _ _ _ _ _ _ _
-    c.loop.invariant.so hands c.fault_of.ensures.fault
+    holds_fault _ _ laws c.pieces_join.ensures.joins c.fault_or_want_of_memory.result c.in-Err.fault _ _ _ _ _ _ _ _ _
+    c.loop.invariant.so hands c.fault_or_want_of_memory.ensures.fault
 
 pub returns-in-Err-clause-stopped : goal.returns-in-Err-clause-stopped
 returns-in-Err-clause-stopped g c =
     let e = c.gathered_texts.ensures in
     let laws = gathering e.nothing e.turns e.writes e.fails e.leaves_nothing e.leaves in
     let hands = c.in-Err.ensures.hands c.loop.invariant.sound in
-    holds_none _ _ laws c.pieces_join.ensures.joins c.fault_of.result c.in-Err.fault _ _ _ _ _ _ _ _ _
+    holds_none _ _ laws c.pieces_join.ensures.joins c.fault_or_want_of_memory.result c.in-Err.fault _ _ _ _ _ _ _ _ _
     c.loop.invariant.so hands
 
 pub returns-clause-stopped : goal.returns-clause-stopped

@@ -1,6 +1,6 @@
 use Rattle.std.proofs.Common.{◌∙◌}
 use Rattle.dm_trace_view.proofs.Pending.{more_fits, pending_next, pending_none}
-use Rattle.dm_trace_view.proofs.run.with_pending.Goals as goal
+use Rattle.dm_trace_view.proofs.run.let_all_go.Goals as goal
 
 pub loop-gone-preserved : goal.loop-gone-preserved
 loop-gone-preserved g c =

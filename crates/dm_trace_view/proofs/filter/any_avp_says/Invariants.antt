@@ -4,7 +4,7 @@ use Rattle.std.specs.List.{list_any}
 use Rattle.dm_wire.specs.declared.avp.Avp.{Avp}
 use Rattle.dm_wire.specs.Borrowed.{Lists, size_of}
 use Rattle.dm_trace_view.specs.Filters.{says_asked}
-use Rattle.dm_trace_view.proofs.filter.one_says.Given as goal
+use Rattle.dm_trace_view.proofs.filter.any_avp_says.Given as goal
 
 abbrev pub invariant-loop-avp : goal.invariant-loop-avp
 invariant-loop-avp l =

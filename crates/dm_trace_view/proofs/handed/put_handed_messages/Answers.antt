@@ -2,7 +2,7 @@ use Rattle.std.proofs.Common.{◌∷◌, [], ◌++◌, ap, append_assoc, ◌∙�
 use Rattle.dm_trace_view.specs.Handed.{HandsNext, SaysOne}
 use Rattle.dm_trace_view.specs.Talks.{talk_of}
 use Rattle.dm_trace_view.proofs.Handing.{some_next}
-use Rattle.dm_trace_view.proofs.handed.put_handed.Goals as goal
+use Rattle.dm_trace_view.proofs.handed.put_handed_messages.Goals as goal
 
 pub loop-preserved : goal.loop-preserved
 loop-preserved g c =
