@@ -17,7 +17,9 @@ ghost use Rattle.dm_peer.specs.Sent.{
 };
 
 use crate::reading::HeardRef;
-use crate::sending::{refusal, send, send_cea, send_cer, send_dpr, send_dwr, send_success};
+use crate::sending::{
+    refusing_answer, send, send_cea, send_cer, send_dpr, send_dwr, send_success_answer,
+};
 use crate::{Action, Actions, Event, Peer};
 use dm_base::{Cause, Node};
 use dm_dict::{Failed, Judged, NoMemory, Verdict};
@@ -27,7 +29,7 @@ use dm_wire::{Header, Octets};
 use std::alloc::Global;
 
 /// The header of what was heard.
-fn header_of(heard: Option<&HeardRef<'_>>) -> Header
+fn header_heard_or_zeros(heard: Option<&HeardRef<'_>>) -> Header
     ensures { result ≡ header_of (heard_by heard.entry) }
 {
     match heard {
@@ -46,7 +48,7 @@ fn header_of(heard: Option<&HeardRef<'_>>) -> Header
 }
 
 /// Why what was heard is refused, where it lies. A refusal without a fault, of which there is none, would have 5012.
-fn fault_in<'a>(heard: Option<&HeardRef<'a>>) -> Judged<'a>
+fn fault_of_heard<'a>(heard: Option<&HeardRef<'a>>) -> Judged<'a>
     ensures { shown result ≡ Some (fault_in (heard_by heard.entry)) }
 {
     let none = Judged::Bad {
@@ -75,10 +77,10 @@ fn send_refusal(
     ensures { OnOk result (actions.new.items ≡ actions.old.items
         ++ sent conn (refusal node.now (header_of (heard_by heard.entry)) (fault_in (heard_by heard.entry))) ∷ []) }
 {
-    let to = header_of(heard);
-    match fault_in(heard).verdict(alloc)? {
+    let to = header_heard_or_zeros(heard);
+    match fault_of_heard(heard).verdict(alloc)? {
         Verdict::Bad { code, failed } => {
-            let message = refusal(alloc, node, &to, code, failed.as_ref())?;
+            let message = refusing_answer(alloc, node, &to, code, failed.as_ref())?;
             send(alloc, conn, message, actions)
         }
         Verdict::Good => unreachable!(),
@@ -91,12 +93,12 @@ fn cer_answered(waiting: Option<Header>, heard: Option<&HeardRef<'_>>) -> Header
 {
     match waiting {
         Some(to) => to,
-        None => header_of(heard),
+        None => header_heard_or_zeros(heard),
     }
 }
 
 /// A copy of the octets that the event brings.
-fn copied(alloc: Global, event: Event<'_>) -> Result<Octets, NoMemory>
+fn copied_event_octets(alloc: Global, event: Event<'_>) -> Result<Octets, NoMemory>
     ensures { IfOk result (λ octets. octets ≡ octets_in (event_told event.entry)) }
 {
     let octets = match event {
@@ -107,7 +109,7 @@ fn copied(alloc: Global, event: Event<'_>) -> Result<Octets, NoMemory>
 }
 
 /// The cause of a Stop, which alone has one.
-fn cause_in(event: Event<'_>) -> Cause
+fn stop_cause(event: Event<'_>) -> Cause
     ensures { result ≡ cause_in (event_told event.entry) }
 {
     match event {
@@ -140,17 +142,20 @@ fn put_action(
         Command::Close(conn) => actions.push(Action::Close(conn)),
         Command::SendCer(conn) => send_cer(alloc, conn, node, next, actions)?,
         Command::SendDwr(conn) => send_dwr(alloc, conn, node, next, actions)?,
-        Command::SendDpr(conn) => send_dpr(alloc, conn, node, next, cause_in(event), actions)?,
+        Command::SendDpr(conn) => send_dpr(alloc, conn, node, next, stop_cause(event), actions)?,
         Command::SendCea(conn) => {
             let to = cer_answered(standing.waiting, heard);
             send_cea(alloc, conn, node, &to, actions)?
         }
         Command::SendDwa(conn) | Command::SendDpa(conn) => {
-            send_success(alloc, conn, node, &header_of(heard), actions)?
+            send_success_answer(alloc, conn, node, &header_heard_or_zeros(heard), actions)?
         }
         Command::SendRefusal(conn) => send_refusal(alloc, conn, node, heard, actions)?,
-        Command::SendSubmit(conn) => actions.push(Action::Send(conn, copied(alloc, event)?)),
-        Command::Up => actions.push(Action::Up(copied(alloc, event)?)),
+        Command::SendSubmit(conn) => actions.push(Action::Send(
+            conn,
+            copied_event_octets(alloc, event)?,
+        )),
+        Command::Up => actions.push(Action::Up(copied_event_octets(alloc, event)?)),
     }
     Ok(())
 }

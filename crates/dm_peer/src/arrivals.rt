@@ -23,7 +23,7 @@ pub(crate) enum Footing {
 }
 
 /// Whether the connection is the one held.
-pub(crate) fn is_on(held: Option<Conn>, conn: Conn) -> bool
+pub(crate) fn is_held_connection(held: Option<Conn>, conn: Conn) -> bool
     ensures { result ≡ is_on held conn }
 {
     match held {
@@ -33,7 +33,7 @@ pub(crate) fn is_on(held: Option<Conn>, conn: Conn) -> bool
 }
 
 /// Whether the initiated connection isn't made yet.
-fn before_ack(state: State) -> bool
+fn awaits_conn_ack(state: State) -> bool
     ensures { result ≡ before_ack state }
 {
     match state {
@@ -43,18 +43,18 @@ fn before_ack(state: State) -> bool
 }
 
 /// How the connection stands to the core.
-pub(crate) fn stood_on(core: &Core, conn: Conn) -> Footing
+pub(crate) fn connection_footing(core: &Core, conn: Conn) -> Footing
     ensures { result ≡ footing_of (hold_of core.now conn) }
 {
     each_node_has_its_form();
     let state = core.state();
-    if is_on(core.initiated(), conn) {
-        if before_ack(state) {
+    if is_held_connection(core.initiated(), conn) {
+        if awaits_conn_ack(state) {
             Footing::Unmade
         } else {
             Footing::Made
         }
-    } else if is_on(core.accepted(), conn) {
+    } else if is_held_connection(core.accepted(), conn) {
         Footing::Made
     } else {
         Footing::New
@@ -62,7 +62,7 @@ pub(crate) fn stood_on(core: &Core, conn: Conn) -> Footing
 }
 
 /// Whether the first message of a new connection is read.
-fn reads_first(state: State) -> bool
+fn reads_first_message(state: State) -> bool
     ensures { result ≡ reads_first state }
 {
     match state {
@@ -76,20 +76,20 @@ pub(crate) fn is_unread(state: State, footing: Footing) -> bool
     ensures { result ≡ is_unread_on state footing }
 {
     match footing {
-        Footing::New => !reads_first(state),
+        Footing::New => !reads_first_message(state),
         Footing::Unmade => true,
         Footing::Made => false,
     }
 }
 
 /// Whether an answer of this header is one that nothing awaits.
-fn is_unawaited(awaited: &Awaited, header: &Header) -> bool
+fn is_unawaited_answer(awaited: &Awaited, header: &Header) -> bool
     ensures { result ≡ is_unawaited awaited.now header.now }
 {
     if header.request || !is_base_command(header.command) {
         return false;
     }
-    awaited.of(header.command) != Some(header.hop_id)
+    awaited.number_of(header.command) != Some(header.hop_id)
 }
 
 /// Whether a message of this header is dropped on a connection that stands so.
@@ -97,7 +97,7 @@ pub(crate) fn is_dropped(awaited: &Awaited, footing: Footing, header: &Header) -
     ensures { result ≡ (has_made footing && is_unawaited awaited.now header.now) }
 {
     match footing {
-        Footing::Made => is_unawaited(awaited, header),
+        Footing::Made => is_unawaited_answer(awaited, header),
         Footing::New | Footing::Unmade => false,
     }
 }

@@ -17,7 +17,7 @@ pub(crate) enum Request {
 }
 
 /// The request that the command sends.
-fn request_of(command: Command) -> Option<Request>
+fn request_of_command(command: Command) -> Option<Request>
     ensures { result ≡ request_of command }
 {
     match command {
@@ -29,12 +29,12 @@ fn request_of(command: Command) -> Option<Request>
 }
 
 /// The first request that the commands send.
-pub(crate) fn request_in(commands: &[Command]) -> Option<Request>
+pub(crate) fn first_request(commands: &[Command]) -> Option<Request>
     ensures { result ≡ request_in commands.now }
 {
     let mut left = commands;
     while let [command, rest @ ..] = left {
-        if let Some(request) = request_of(*command) {
+        if let Some(request) = request_of_command(*command) {
             return Some(request);
         }
         left = rest;

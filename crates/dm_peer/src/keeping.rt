@@ -9,13 +9,13 @@ ghost use Rattle.dm_peer.specs.Strangers.{AreStrange, TurnsAway};
 use crate::events::brings_octets;
 use crate::laws::{each_event_keeps_settled, each_send_is_spelled, strangers_change_nothing};
 use crate::standing::{Kept, Standing};
-use crate::steps::answer;
+use crate::steps::handle_event;
 use crate::{Actions, Event, Peer, PeerFault};
 use std::alloc::Global;
 
 /// The standing that an event leaves with these actions, as every peer has it.
 #[inline(always)]
-pub(crate) fn kept_after(
+pub(crate) fn kept_standing(
     peer: &Peer,
     event: Event<'_>,
     actions: &Actions,
@@ -32,7 +32,7 @@ pub(crate) fn kept_after(
 }
 
 /// What the event comes to at a peer that holds what every peer does.
-pub(crate) fn kept_answer(
+pub(crate) fn handle_event_of_kept_peer(
     alloc: Global,
     peer: &mut Peer,
     event: Event<'_>,
@@ -51,5 +51,5 @@ pub(crate) fn kept_answer(
     strangers_change_nothing();
     brings_octets(event);
     let _kept = peer.standing.get();
-    answer(alloc, peer, event, actions)
+    handle_event(alloc, peer, event, actions)
 }

@@ -8,7 +8,7 @@ ghost use Rattle.dm_peer.specs.Lent.{heard_by};
 ghost use Rattle.dm_peer.specs.Said.{Heard, word_heard};
 
 use crate::commands::{Request, header_heard, word_heard};
-use crate::keeping::kept_after;
+use crate::keeping::kept_standing;
 use crate::reading::HeardRef;
 use crate::standing::{Awaited, Standing};
 use crate::{Actions, Event, Peer};
@@ -16,7 +16,7 @@ use dm_machine::{Core, State, Word};
 use dm_wire::Header;
 
 /// The next number after a request or none.
-fn next_after(sent: Option<Request>, next: u32) -> u32
+fn next_number_after(sent: Option<Request>, next: u32) -> u32
     ensures { result ≡ next_after sent next }
 {
     match sent {
@@ -26,7 +26,7 @@ fn next_after(sent: Option<Request>, next: u32) -> u32
 }
 
 /// The number that awaits an answer: a new one where the request is sent, none where no answer is awaited.
-fn number_after(awaits: bool, sends: bool, next: u32, old: Option<u32>) -> Option<u32>
+fn awaited_number_after(awaits: bool, sends: bool, next: u32, old: Option<u32>) -> Option<u32>
     ensures { result ≡ number_after awaits sends next old }
 {
     if !awaits {
@@ -35,7 +35,7 @@ fn number_after(awaits: bool, sends: bool, next: u32, old: Option<u32>) -> Optio
     if sends { Some(next) } else { old }
 }
 
-fn cea_after(sent: Option<Request>, state: State, standing: &Standing) -> Option<u32>
+fn awaited_cea_after(sent: Option<Request>, state: State, standing: &Standing) -> Option<u32>
     ensures { result ≡ number_after (awaits_cea state) (is_cer sent) standing.now.next standing.now.awaited.cea }
 {
     let awaits = match state {
@@ -46,11 +46,11 @@ fn cea_after(sent: Option<Request>, state: State, standing: &Standing) -> Option
         Some(Request::Cer) => true,
         _ => false,
     };
-    number_after(awaits, sends, standing.next, standing.awaited.cea)
+    awaited_number_after(awaits, sends, standing.next, standing.awaited.cea)
 }
 
 /// The DWR's number, which a good DWA in an open state takes away.
-fn dwa_left(before: State, word: Word, old: Option<u32>) -> Option<u32>
+fn awaited_dwa_left(before: State, word: Word, old: Option<u32>) -> Option<u32>
     ensures { (h : Option Heard) → word_heard h ≡ word → result ≡ dwa_left before h old }
 {
     match word {
@@ -69,17 +69,22 @@ fn is_dwr(sent: Option<Request>) -> bool
     }
 }
 
-fn dwa_after(sent: Option<Request>, state: State, next: u32, left: Option<u32>) -> Option<u32>
+fn awaited_dwa_after(
+    sent: Option<Request>,
+    state: State,
+    next: u32,
+    left: Option<u32>,
+) -> Option<u32>
     ensures { result ≡ number_after (awaits_dwa state) (is_dwr sent) next left }
 {
     let awaits = match state {
         State::ROpen | State::IOpen | State::Closing => true,
         _ => false,
     };
-    number_after(awaits, is_dwr(sent), next, left)
+    awaited_number_after(awaits, is_dwr(sent), next, left)
 }
 
-fn dpa_after(sent: Option<Request>, state: State, standing: &Standing) -> Option<u32>
+fn awaited_dpa_after(sent: Option<Request>, state: State, standing: &Standing) -> Option<u32>
     ensures { result ≡ number_after (awaits_dpa state) (is_dpr sent) standing.now.next standing.now.awaited.dpa }
 {
     let awaits = match state {
@@ -90,11 +95,11 @@ fn dpa_after(sent: Option<Request>, state: State, standing: &Standing) -> Option
         Some(Request::Dpr) => true,
         _ => false,
     };
-    number_after(awaits, sends, standing.next, standing.awaited.dpa)
+    awaited_number_after(awaits, sends, standing.next, standing.awaited.dpa)
 }
 
 /// The header that waits: kept on entering the states in which it does, and while they last.
-fn waiting_after(
+fn waiting_cer_after(
     before: State,
     heard: Option<Header>,
     after: State,
@@ -110,7 +115,7 @@ fn waiting_after(
 
 /// Where the peer stands after a step that sends this request or none, and leads to this core.
 #[inline(never)]
-fn standing_anywhere(
+fn standing_after_step(
     standing: &Standing,
     heard: Option<&HeardRef<'_>>,
     sent: Option<Request>,
@@ -119,15 +124,15 @@ fn standing_anywhere(
     ensures { result ≡ standing_after standing.now (heard_by heard.entry) sent core }
 {
     let (before, after) = (standing.core.state(), core.state());
-    let left = dwa_left(before, word_heard(heard), standing.awaited.dwa);
+    let left = awaited_dwa_left(before, word_heard(heard), standing.awaited.dwa);
     Standing {
         core,
-        next: next_after(sent, standing.next),
-        waiting: waiting_after(before, header_heard(heard), after, standing.waiting),
+        next: next_number_after(sent, standing.next),
+        waiting: waiting_cer_after(before, header_heard(heard), after, standing.waiting),
         awaited: Awaited {
-            cea: cea_after(sent, after, standing),
-            dwa: dwa_after(sent, after, standing.next, left),
-            dpa: dpa_after(sent, after, standing),
+            cea: awaited_cea_after(sent, after, standing),
+            dwa: awaited_dwa_after(sent, after, standing.next, left),
+            dpa: awaited_dpa_after(sent, after, standing),
         },
     }
 }
@@ -135,7 +140,7 @@ fn standing_anywhere(
 /// Leaves the peer, which was told the event and asks for these actions, where it stands after the step. It most often
 /// leads to an open state, where little is awaited.
 #[inline(always)]
-pub(crate) fn settle(
+pub(crate) fn set_standing_after_step(
     peer: &mut Peer,
     event: Event<'_>,
     heard: Option<&HeardRef<'_>>,
@@ -150,29 +155,29 @@ pub(crate) fn settle(
     let standing = peer.standing.get();
     let after = match core.state() {
         State::ROpen | State::IOpen => {
-            let left = dwa_left(
+            let left = awaited_dwa_left(
                 standing.core.state(),
                 word_heard(heard),
                 standing.awaited.dwa,
             );
             Standing {
                 core,
-                next: next_after(sent, standing.next),
+                next: next_number_after(sent, standing.next),
                 waiting: None,
                 awaited: Awaited {
                     cea: None,
-                    dwa: number_after(true, is_dwr(sent), standing.next, left),
+                    dwa: awaited_number_after(true, is_dwr(sent), standing.next, left),
                     dpa: None,
                 },
             }
         }
         _ => {
-            let after = standing_anywhere(standing, heard, sent, core);
-            let kept = kept_after(peer, event, actions, after);
+            let after = standing_after_step(standing, heard, sent, core);
+            let kept = kept_standing(peer, event, actions, after);
             peer.standing = kept;
             return;
         }
     };
-    let kept = kept_after(peer, event, actions, after);
+    let kept = kept_standing(peer, event, actions, after);
     peer.standing = kept;
 }

@@ -16,8 +16,8 @@ ghost use Rattle.dm_peer.specs.Strangers.{AreStrange, TurnsAway};
 ghost use Rattle.dm_peer.specs.declared.fault.PeerFault.{PeerFault};
 ghost use Rattle.dm_peer.specs.declared.fault.PeerFault.TheVariants.{NoMemory};
 
-use crate::arrivals::is_on;
-use crate::keeping::kept_answer;
+use crate::arrivals::is_held_connection;
+use crate::keeping::handle_event_of_kept_peer;
 use crate::laws::{refusals_go_by_rule, silent_takes_none};
 use crate::standing::Kept;
 use crate::{Actions, Config, Event, PeerFault};
@@ -37,7 +37,7 @@ pub struct Peer {
 /// Lets go what a refused event put in.
 // (It is rare, and in a function of its own in the machine's code too.)
 #[inline(never)]
-fn let_go(actions: Actions) {
+fn drop_actions(actions: Actions) {
     drop(actions);
 }
 
@@ -88,7 +88,7 @@ impl Peer {
     {
         let mut actions = ArrayVec::new();
         if let Err(fault) = self.on_into(alloc, event, &mut actions) {
-            let_go(actions);
+            drop_actions(actions);
             return Err(fault);
         }
         Ok(actions)
@@ -125,7 +125,7 @@ impl Peer {
         silent_takes_none();
         refusals_go_by_rule();
         let _shaped = self.state();
-        kept_answer(alloc, self, event, actions)
+        handle_event_of_kept_peer(alloc, self, event, actions)
     }
 
     /// The configuration. It never answers want of memory.
@@ -163,7 +163,7 @@ impl Peer {
     {
         each_node_has_its_form();
         let _shaped = self.state();
-        is_on(self.initiated(), conn) || is_on(self.accepted(), conn)
+        is_held_connection(self.initiated(), conn) || is_held_connection(self.accepted(), conn)
     }
 
     /// Whether the state is R-Open or I-Open. It never answers want of memory.
@@ -178,6 +178,6 @@ impl Peer {
     pub fn awaited(&self, command: u32) -> Option<u32>
         ensures { result ≡ awaited_of self.now.standing.awaited command }
     {
-        self.standing.get().awaited.of(command)
+        self.standing.get().awaited.number_of(command)
     }
 }

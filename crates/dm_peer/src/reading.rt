@@ -40,7 +40,7 @@ pub(crate) struct HeardRef<'a> {
 }
 
 /// The word of a message that fails its check.
-fn word_of_bad(header: &Header) -> Word
+fn word_of_bad_message(header: &Header) -> Word
     ensures { result ≡ word_of_bad header.now }
 {
     match BaseCommand::of(header.command) {
@@ -71,7 +71,7 @@ fn refusal_of_caps(config: &Config, caps: &CapsRef<'_>) -> Option<u32>
 
 /// A message that isn't refused.
 #[inline(always)]
-pub(crate) fn good<'a>(header: &'a Header, word: Word) -> HeardRef<'a>
+pub(crate) fn heard_as_good<'a>(header: &'a Header, word: Word) -> HeardRef<'a>
     ensures { heard_of result ≡ good header.now word }
 {
     HeardRef {
@@ -84,12 +84,12 @@ pub(crate) fn good<'a>(header: &'a Header, word: Word) -> HeardRef<'a>
 /// A CER that passes its check.
 // (It is rare, and in a function of its own in the machine's code too.)
 #[inline(never)]
-fn heard_caps<'a>(config: &Config, header: &'a Header, caps: &CapsRef<'_>) -> HeardRef<'a>
+fn heard_cer<'a>(config: &Config, header: &'a Header, caps: &CapsRef<'_>) -> HeardRef<'a>
     ensures { (theirs : Caps) → ShowsCaps caps.now theirs
         → heard_of result ≡ heard_caps header.now (refusal_of_caps config.now theirs) }
 {
     match refusal_of_caps(config, caps) {
-        None => good(header, Word::Cer),
+        None => heard_as_good(header, Word::Cer),
         Some(code) => HeardRef {
             header,
             word: Word::CerRefused,
@@ -102,7 +102,7 @@ fn heard_caps<'a>(config: &Config, header: &'a Header, caps: &CapsRef<'_>) -> He
 }
 
 /// The word of a CEA of this Result-Code.
-fn word_of_code(code: u32) -> Word
+fn word_of_cea_code(code: u32) -> Word
     ensures { result ≡ word_of_code code }
 {
     if code >= 2000 && code <= 2999 {
@@ -139,13 +139,13 @@ fn word_of_cea(config: &Config, message: &MessageRef<'_>, code: u32) -> Word
     if is_other_sender(config, message) {
         Word::CeaFailed
     } else {
-        word_of_code(code)
+        word_of_cea_code(code)
     }
 }
 
 /// A message of this kind, put into `heard`, which says of its header that it is good.
 #[inline(always)]
-fn said_by_kind<'a>(
+fn hear_kind<'a>(
     config: &Config,
     message: &'a MessageRef<'_>,
     kind: KindRef<'_>,
@@ -156,7 +156,7 @@ fn said_by_kind<'a>(
         → heard_of heard.new ≡ said_by_kind config.now (record { header = message.now.header; avps = l }) k }
 {
     match kind {
-        KindRef::Cer(caps) => *heard = heard_caps(config, &message.header, &caps),
+        KindRef::Cer(caps) => *heard = heard_cer(config, &message.header, &caps),
         KindRef::Cea(code) => heard.word = word_of_cea(config, message, code),
         KindRef::Dwr => heard.word = Word::Dwr,
         KindRef::Dwa => heard.word = Word::Dwa,
@@ -169,15 +169,19 @@ fn said_by_kind<'a>(
 /// What the message says to a peer of this configuration, put into `heard`. It never answers want of memory.
 #[tactic(auto, unfolding(crate::specs::Said::kind_under))]
 #[inline(always)]
-pub(crate) fn hear<'a>(config: &Config, message: &'a MessageRef<'a>, heard: &mut HeardRef<'a>)
+pub(crate) fn hear_message<'a>(
+    config: &Config,
+    message: &'a MessageRef<'a>,
+    heard: &mut HeardRef<'a>,
+)
     requires good { (w : Word) × (heard_of heard.old ≡ good message.now.header w) }
     ensures { (l : List Avp) → SpellsList l message.now.rest.now
         → heard_of heard.new ≡ heard_in config.now (record { header = message.now.header; avps = l }) }
 {
     match view(config.dictionary.get(), message) {
-        Ok(kind) => said_by_kind(config, message, kind, heard),
+        Ok(kind) => hear_kind(config, message, kind, heard),
         Err(judged) => {
-            heard.word = word_of_bad(&message.header);
+            heard.word = word_of_bad_message(&message.header);
             heard.judged = judged;
         }
     }

@@ -98,7 +98,7 @@ pub(crate) fn send_cea(
 /// The octets of a DWA or DPA of success.
 #[tactic(auto, unfolding(crate::specs::Octets::octets_of))]
 #[inline(always)]
-fn success_answer(alloc: Global, node: &Node, to: &Header) -> Result<Octets, NoMemory>
+fn dwa_or_dpa_octets(alloc: Global, node: &Node, to: &Header) -> Result<Octets, NoMemory>
     ensures { IfOk result (λ octets. octets ≡ octets_of (built_answer node.now to.now success None)) }
 {
     match success_octets(alloc, node, to) {
@@ -108,7 +108,7 @@ fn success_answer(alloc: Global, node: &Node, to: &Header) -> Result<Octets, NoM
 }
 
 /// A DWA or DPA of success is to be sent.
-pub(crate) fn send_success(
+pub(crate) fn send_success_answer(
     alloc: Global,
     conn: Conn,
     node: &Node,
@@ -119,7 +119,7 @@ pub(crate) fn send_success(
     ensures { OnOk result (actions.new.items
         ≡ actions.old.items ++ sent conn (built_answer node.now to.now success None) ∷ []) }
 {
-    let answer = success_answer(alloc, node, to)?;
+    let answer = dwa_or_dpa_octets(alloc, node, to)?;
     actions.push(Action::Send(conn, answer));
     Ok(())
 }
@@ -132,7 +132,7 @@ fn is_protocol_error(code: u32) -> bool
 }
 
 /// The answer that refuses a message.
-pub(crate) fn refusal(
+pub(crate) fn refusing_answer(
     alloc: Global,
     node: &Node,
     to: &Header,

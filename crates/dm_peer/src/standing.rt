@@ -48,7 +48,7 @@ impl Awaited {
     }
 
     /// The number of the request of the command that awaits its answer: 257, 280 or 282. None for other commands.
-    pub(crate) fn of(&self, command: u32) -> Option<u32>
+    pub(crate) fn number_of(&self, command: u32) -> Option<u32>
         ensures { result ≡ awaited_of self.now command }
     {
         match BaseCommand::of(command)? {

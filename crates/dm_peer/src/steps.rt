@@ -24,11 +24,11 @@ ghost use Rattle.dm_peer.specs.Places.{footing_of};
 ghost use Rattle.dm_peer.specs.Lent.{heard_by};
 
 use crate::answer::put_actions;
-use crate::arrivals::{Footing, is_dropped, is_unread, stood_on};
-use crate::commands::{request_in, word_heard};
-use crate::leaving::settle;
+use crate::arrivals::{Footing, connection_footing, is_dropped, is_unread};
+use crate::commands::{first_request, word_heard};
+use crate::leaving::set_standing_after_step;
 use crate::message::read_message;
-use crate::reading::{HeardRef, good, hear};
+use crate::reading::{HeardRef, hear_message, heard_as_good};
 use crate::{Actions, Config, Event, Peer, PeerFault};
 use dm_base::is_base_command;
 use dm_machine::laws::each_state_decides;
@@ -48,28 +48,28 @@ fn holds_elections(state: State) -> bool
 }
 
 /// Whether the own side wins where an election can be held: elsewhere hosts aren't compared.
-fn may_win(config: &Config, state: State) -> bool
+fn wins_if_election(config: &Config, state: State) -> bool
     ensures { result ≡ (holds_elections state && wins config.now) }
 {
-    holds_elections(state) && config.wins()
+    holds_elections(state) && config.wins_election()
 }
 
 /// One step of the state machine.
 #[tactic(auto, unfolding(crate::specs::Acts::turned))]
-fn turned(core: &Core, input: Input, config: &Config) -> Result<(Core, Commands), PeerFault>
+fn step_core(core: &Core, input: Input, config: &Config) -> Result<(Core, Commands), PeerFault>
     ensures moved { IfOk result (λ r. turned core.now input (wins config.now) ≡ moves.NodeMoved r.1.items r.0) }
     ensures refused { IfErr result (λ f. (r : Refusal)
         × (turned core.now input (wins config.now) ≡ moves.NodeRefused r) × (f ≡ fault_of r)) }
 {
     each_state_decides();
-    match step(core, input, may_win(config, core.state())) {
+    match step(core, input, wins_if_election(config, core.state())) {
         Ok(turn) => Ok(turn),
         Err(refusal) => Err(PeerFault::from(refusal)),
     }
 }
 
 /// The event as the state machine's input.
-fn input_of(event: Event<'_>, heard: Option<&HeardRef<'_>>) -> Input
+fn input_of_event(event: Event<'_>, heard: Option<&HeardRef<'_>>) -> Input
     ensures { result ≡ input_of (event_told event.entry) (heard_by heard.entry) }
 {
     match event {
@@ -86,7 +86,7 @@ fn input_of(event: Event<'_>, heard: Option<&HeardRef<'_>>) -> Input
 }
 
 /// One step at the event, after what was heard, by which the event goes.
-fn steps(
+fn step_peer(
     alloc: Global,
     peer: &mut Peer,
     event: Event<'_>,
@@ -99,16 +99,16 @@ fn steps(
     ensures refused { IfErr result (IsRefused (acts peer.old (event_told event.entry))) }
     ensures unchanged { OnErr result (peer.new ≡ peer.old) }
 {
-    let input = input_of(event, heard);
-    let (core, commands) = turned(&peer.standing.get().core, input, &peer.config)?;
+    let input = input_of_event(event, heard);
+    let (core, commands) = step_core(&peer.standing.get().core, input, &peer.config)?;
     put_actions(alloc, peer, event, heard, commands.as_slice(), actions)?;
-    let sent = request_in(commands.as_slice());
-    settle(peer, event, heard, sent, core, actions);
+    let sent = first_request(commands.as_slice());
+    set_standing_after_step(peer, event, heard, sent, core, actions);
     Ok(())
 }
 
 /// A message that came on the connection.
-fn heard(
+fn handle_message(
     alloc: Global,
     peer: &mut Peer,
     event: Event<'_>,
@@ -128,13 +128,13 @@ fn heard(
     if is_dropped(&peer.standing.get().awaited, footing, &message.header) {
         return Ok(());
     }
-    let mut heard = good(&message.header, Word::Other);
-    hear(&peer.config, message, &mut heard);
-    steps(alloc, peer, event, Some(&heard), actions)
+    let mut heard = heard_as_good(&message.header, Word::Other);
+    hear_message(&peer.config, message, &mut heard);
+    step_peer(alloc, peer, event, Some(&heard), actions)
 }
 
 /// Octets that came on the connection.
-fn arrived(
+fn handle_arrival(
     alloc: Global,
     peer: &mut Peer,
     conn: Conn,
@@ -147,17 +147,17 @@ fn arrived(
     ensures unchanged { OnErr result (peer.new ≡ peer.old) }
 {
     let core = &peer.standing.get().core;
-    let footing = stood_on(core, conn);
+    let footing = connection_footing(core, conn);
     if is_unread(core.state(), footing) {
-        return steps(alloc, peer, Event::Arrived(conn, octets), None, actions);
+        return step_peer(alloc, peer, Event::Arrived(conn, octets), None, actions);
     }
     message_in_spells();
     no_message_refused();
     let event = Event::Arrived(conn, octets);
     // (It is told where it is read, and isn't moved.)
     match &MessageRef::read(octets) {
-        Ok(message) => heard(alloc, peer, event, conn, footing, message, actions),
-        Err(_) => steps(alloc, peer, event, None, actions),
+        Ok(message) => handle_message(alloc, peer, event, conn, footing, message, actions),
+        Err(_) => step_peer(alloc, peer, event, None, actions),
     }
 }
 
@@ -172,7 +172,7 @@ fn can_submit(octets: &[u8]) -> bool
 }
 
 /// Octets that the user submits.
-fn submitted(
+fn handle_submit(
     alloc: Global,
     peer: &mut Peer,
     octets: &[u8],
@@ -189,12 +189,12 @@ fn submitted(
     if !can_submit(octets) {
         return Err(PeerFault::BadSubmit);
     }
-    steps(alloc, peer, Event::Submit(octets), None, actions)
+    step_peer(alloc, peer, Event::Submit(octets), None, actions)
 }
 
 /// What the event comes to: the peer becomes the next one, and the actions are put in. Behind a refusal these are of
 /// no use.
-pub(crate) fn answer(
+pub(crate) fn handle_event(
     alloc: Global,
     peer: &mut Peer,
     event: Event<'_>,
@@ -206,8 +206,8 @@ pub(crate) fn answer(
     ensures unchanged { OnErr result (peer.new ≡ peer.old) }
 {
     match event {
-        Event::Arrived(conn, octets) => arrived(alloc, peer, conn, octets, actions),
-        Event::Submit(octets) => submitted(alloc, peer, octets, actions),
-        other => steps(alloc, peer, other, None, actions),
+        Event::Arrived(conn, octets) => handle_arrival(alloc, peer, conn, octets, actions),
+        Event::Submit(octets) => handle_submit(alloc, peer, octets, actions),
+        other => step_peer(alloc, peer, other, None, actions),
     }
 }

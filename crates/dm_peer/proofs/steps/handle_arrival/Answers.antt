@@ -12,7 +12,7 @@ use Rattle.dm_peer.specs.Acts.{acts, steps, heard_outcome, is_unread}
 use Rattle.dm_peer.specs.Events.{Arrived}
 use Rattle.dm_peer.specs.declared.peer.Peer.{Peer}
 use Rattle.dm_peer.proofs.Whole.{message_with, read_in, none_in}
-use Rattle.dm_peer.proofs.steps.arrived.Goals as goal
+use Rattle.dm_peer.proofs.steps.handle_arrival.Goals as goal
 
 goes_by : (p : Peer) (c : Conn) (s : List ℕ) (m : Option Message) →
     is_unread p.standing.core.state (hold_of p.standing.core c) ≡ false → message_in s ≡ m →
@@ -21,8 +21,8 @@ goes_by p c s m read is =
     ap (λ b. if b then steps p (Arrived c s) None else heard_outcome p (Arrived c s) c (message_in s)) read
     ∙ ap (heard_outcome p (Arrived c s) c) is
 
-pub heard-requires-clause-goes : goal.heard-requires-clause-goes
-heard-requires-clause-goes c =
+pub handle_message-requires-clause-goes : goal.handle_message-requires-clause-goes
+handle_message-requires-clause-goes c =
     let p : Peer = c.args.peer.now in
     let s = c.args.octets.now in
     let m = c.in-Ok.message in
@@ -33,14 +33,14 @@ heard-requires-clause-goes c =
     cc (
       c.is_unread.ensures,
       c.if-is_unread.ensures,
-      c.stood_on-footing.ensures,
+      c.connection_footing-footing.ensures,
       c.state.ensures.value,
       c.get.ensures.value,
     ) in
     (at.0, at.1, goes_by p c.args.conn s (Some (message_with m.header at.0)) read at.2)
 
-pub steps-requires-in-Err-clause-goes : goal.steps-requires-in-Err-clause-goes
-steps-requires-in-Err-clause-goes c =
+pub step_peer-requires-in-Err-clause-goes : goal.step_peer-requires-in-Err-clause-goes
+step_peer-requires-in-Err-clause-goes c =
     let p : Peer = c.args.peer.now in
     let s = c.args.octets.now in
     let refused = subst (λ r. IfErr r (Refuses s)) c.in-Err.is c.read.ensures.fault in
@@ -48,7 +48,7 @@ steps-requires-in-Err-clause-goes c =
     cc (
       c.is_unread.ensures,
       c.if-is_unread.ensures,
-      c.stood_on-footing.ensures,
+      c.connection_footing-footing.ensures,
       c.state.ensures.value,
       c.get.ensures.value,
     ) in

@@ -5,10 +5,10 @@ use Rattle.dm_peer.specs.Acts.{Moved, steps, is_dropped}
 use Rattle.dm_peer.specs.Events.{event_told}
 use Rattle.dm_peer.specs.Said.{heard_in}
 use Rattle.dm_peer.specs.declared.peer.Peer.{Peer}
-use Rattle.dm_peer.proofs.steps.heard.Goals as goal
+use Rattle.dm_peer.proofs.steps.handle_message.Goals as goal
 
-pub steps-requires-clause-goes : goal.steps-requires-clause-goes
-steps-requires-clause-goes c =
+pub step_peer-requires-clause-goes : goal.step_peer-requires-clause-goes
+step_peer-requires-clause-goes c =
     let goes = c.requires.goes in
     let p : Peer = c.args.peer.now in
     let e = event_told c.args.event in
@@ -17,4 +17,4 @@ steps-requires-clause-goes c =
     cc (c.is_dropped.ensures, c.if-is_dropped.ensures, c.requires.footing) in
     goes.2
     ∙ ap (λ b. if b then Moved [] p else steps p e (Some (heard_in p.config m))) stays
-    ∙ ap (λ h. steps p e (Some h)) (sym (c.hear.ensures goes.0 goes.1))
+    ∙ ap (λ h. steps p e (Some h)) (sym (c.hear_message.ensures goes.0 goes.1))
