@@ -16,7 +16,7 @@ use crate::step::{begins_with_terminal, expect_token};
 use crate::symbol::Symbol;
 use crate::terminal::{Terminal, fits};
 use crate::token::Token;
-use crate::value::values;
+use crate::value::read_values;
 use crate::vendor::read_vendor_word;
 use std::alloc::Global;
 
@@ -31,7 +31,7 @@ fn may_have_list(kind: Token<'_>, how: Reading) -> bool
 }
 
 /// A type, and whether a list may stand behind it.
-fn kind<'t, 'a>(
+fn read_avp_type<'t, 'a>(
     tokens: &'t [Token<'a>],
     how: Reading,
 ) -> Result<((Token<'a>, bool), &'t [Token<'a>]), usize>
@@ -82,7 +82,7 @@ fn read_type_part<'t, 'a>(
         (λ line. collect how AvpCode (view_words tokens.now) ≡ Err line) }
     ensures shorter { IfOk result (λ x. length x.1.now < length tokens.now) }
 {
-    let ((kind, may), rest) = kind(tokens, how)?;
+    let ((kind, may), rest) = read_avp_type(tokens, how)?;
     let (vendor, rest) = read_vendor_word(rest, how)?;
     let (list, rest) = read_list_brace(rest, how, may);
     Ok((TypePart { kind, vendor, list }, rest))
@@ -140,7 +140,7 @@ pub(crate) fn read_avp_item<'t, 'a>(
 {
     match read_avp_front(tokens, how) {
         Ok(((name, code, typed), rest)) => {
-            let (values, rest) = values(alloc, rest, how, typed.list)?;
+            let (values, rest) = read_values(alloc, rest, how, typed.list)?;
             let item = AvpItem {
                 name,
                 code,

@@ -97,7 +97,7 @@ pub(crate) fn begins_entry(tokens: &[Token<'_>]) -> bool
 }
 
 /// The entry with which the tokens begin.
-pub(crate) fn entry<'t, 'a>(
+pub(crate) fn read_entry<'t, 'a>(
     tokens: &'t [Token<'a>],
     how: Reading,
 ) -> Result<(EntryItem<'a>, &'t [Token<'a>]), usize>

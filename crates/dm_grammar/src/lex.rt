@@ -143,7 +143,7 @@ fn next_token(text: &[u8], at: usize, line: usize) -> Option<(Token<'_>, usize)>
 }
 
 /// All tokens of the text, in order.
-pub(crate) fn tokens(alloc: Global, text: &[u8]) -> Result<Vec<Token<'_>>, AllocError>
+pub(crate) fn read_tokens(alloc: Global, text: &[u8]) -> Result<Vec<Token<'_>>, AllocError>
     ensures { IfOk result (λ v. map view_word v.items ≡ tokens text.now) }
 {
     let mut found = Vec::new(alloc);

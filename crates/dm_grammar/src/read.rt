@@ -18,9 +18,9 @@ use crate::avp::read_avp_item;
 use crate::fault::ItemFault;
 use crate::head::Head;
 use crate::item::{CommandItem, EntryItem, GroupItem, Item};
-use crate::lex::{last_line, tokens};
+use crate::lex::{last_line, read_tokens};
 use crate::reading::Reading;
-use crate::rule::rule;
+use crate::rule::read_rule;
 use crate::step::{same_tokens, take_token_if};
 use crate::symbol::Symbol;
 use crate::terminal::Terminal;
@@ -72,7 +72,7 @@ fn read_definition<'t, 'a>(
 {
     match read_title_and_head(tokens, how) {
         Ok(((name, head), rest)) => {
-            let (rule, rest) = rule(alloc, rest, how)?;
+            let (rule, rest) = read_rule(alloc, rest, how)?;
             Ok((command_or_group_item(name, head, rule), rest))
         }
         Err(line) => Err(ItemFault::Syntax(line)),
@@ -103,7 +103,7 @@ fn read_vendor_or_avp<'t, 'a>(
 }
 
 /// The next item.
-fn item<'t, 'a>(
+fn read_item<'t, 'a>(
     alloc: Global,
     tokens: &'t [Token<'a>],
     how: Reading,
@@ -137,7 +137,7 @@ fn add_next_item<'t, 'a>(
         (λ fault. IfSyntax fault (λ line. collect how Text (view_words tokens.now) ≡ Err line)) }
     ensures shorter { IfOk result (λ rest. length rest.now < length tokens.now) }
 {
-    let (item, rest) = item(alloc, tokens, how)?;
+    let (item, rest) = read_item(alloc, tokens, how)?;
     if found.push(item).is_err() {
         return Err(ItemFault::NoMemory);
     }
@@ -166,7 +166,11 @@ fn add_all_items<'a>(
 }
 
 /// All items, to the end of the tokens.
-fn items<'a>(alloc: Global, tokens: &[Token<'a>], how: Reading) -> Result<Vec<Item<'a>>, ItemFault>
+fn read_all_items<'a>(
+    alloc: Global,
+    tokens: &[Token<'a>],
+    how: Reading,
+) -> Result<Vec<Item<'a>>, ItemFault>
     ensures items { IfOk result (λ items. items_told (collect how Text (view_words tokens.now))
         ≡ Ok (map view_item items.items)) }
     ensures fault { IfErr result (λ fault. IfSyntax fault (λ line. items_told (collect how Text (view_words tokens.now))
@@ -183,9 +187,9 @@ fn read_text_items(alloc: Global, text: &[u8]) -> Result<Vec<Item<'_>>, ItemFaul
     ensures fault { IfErr result (λ fault. IfSyntax fault (λ line. items_or_line text.now ≡ Err line)) }
 {
     let last = last_line(text);
-    let all = tokens(alloc, text).map_err(|_| ItemFault::NoMemory)?;
+    let all = read_tokens(alloc, text).map_err(|_| ItemFault::NoMemory)?;
     let (version, body) = version_and_body(all.as_slice());
-    let found = items(alloc, body, Reading { version, last });
+    let found = read_all_items(alloc, body, Reading { version, last });
     drop(all);
     found
 }

@@ -6,7 +6,7 @@ ghost use Rattle.dm_grammar.specs.Readers.{IfSyntax, with_rule};
 ghost use Rattle.dm_grammar.specs.Told.{collect};
 ghost use Rattle.dm_grammar.specs.Views.{view_entry, view_words};
 
-use crate::entry::{begins_entry, entry};
+use crate::entry::{begins_entry, read_entry};
 use crate::fault::ItemFault;
 use crate::item::EntryItem;
 use crate::reading::Reading;
@@ -15,7 +15,7 @@ use crate::token::Token;
 use std::alloc::Global;
 
 /// *entry: the entries up to the next item.
-pub(crate) fn rule<'t, 'a>(
+pub(crate) fn read_rule<'t, 'a>(
     alloc: Global,
     tokens: &'t [Token<'a>],
     how: Reading,
@@ -29,7 +29,7 @@ pub(crate) fn rule<'t, 'a>(
     let mut entries = Vec::new(alloc);
     let mut rest = tokens;
     while begins_entry(rest) {
-        match entry(rest, how) {
+        match read_entry(rest, how) {
             Ok((entry, after)) => {
                 entries.push(entry).map_err(|_| ItemFault::NoMemory)?;
                 rest = same_tokens(after);

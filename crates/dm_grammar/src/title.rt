@@ -58,7 +58,10 @@ fn read_header_and_group_head<'t, 'a>(
 }
 
 /// A head: ("Diameter" "Header" | "Diameter-Header") or ("AVP" "Header" | "AVP-Header"), and its rest.
-fn head<'t, 'a>(tokens: &'t [Token<'a>], how: Reading) -> Result<(Head<'a>, &'t [Token<'a>]), usize>
+fn read_head<'t, 'a>(
+    tokens: &'t [Token<'a>],
+    how: Reading,
+) -> Result<(Head<'a>, &'t [Token<'a>]), usize>
     ensures tells { MatchResult result
         (λ x. collect how HeadPlace (view_words tokens.now)
         ≡ with_head (view_head x.0) (collect how InRule (view_words x.1.now)))
@@ -99,7 +102,7 @@ fn read_bare_title<'t, 'a>(
 }
 
 /// The name of a command or a group: "<" name ">" | name.
-fn title<'t, 'a>(
+fn read_title<'t, 'a>(
     tokens: &'t [Token<'a>],
     how: Reading,
 ) -> Result<(Token<'a>, &'t [Token<'a>]), usize>
@@ -139,7 +142,7 @@ fn read_title_and_marks<'t, 'a>(
         (λ line. collect how Text (view_words tokens.now) ≡ Err line) }
     ensures shorter { IfOk result (λ x. length x.1.now < length tokens.now) }
 {
-    let (name, rest) = title(tokens, how)?;
+    let (name, rest) = read_title(tokens, how)?;
     let (_marks, rest) = expect_two_tokens(
         rest,
         how,
@@ -163,6 +166,6 @@ pub(crate) fn read_title_and_head<'t, 'a>(
     ensures shorter { IfOk result (λ x. length x.1.now < length tokens.now) }
 {
     let (name, rest) = read_title_and_marks(tokens, how)?;
-    let (head, rest) = head(rest, how)?;
+    let (head, rest) = read_head(rest, how)?;
     Ok(((name, head), rest))
 }

@@ -38,7 +38,7 @@ fn read_value_end<'t, 'a>(
 }
 
 /// A value, and whether another follows: name number, and `,` or `}`.
-fn value<'t, 'a>(
+fn read_value<'t, 'a>(
     tokens: &'t [Token<'a>],
     how: Reading,
 ) -> Result<((ValueItem<'a>, bool), &'t [Token<'a>]), usize>
@@ -63,7 +63,7 @@ fn value<'t, 'a>(
 }
 
 /// The values behind `{`, up to `}`: value *("," value); none where there is no list.
-pub(crate) fn values<'t, 'a>(
+pub(crate) fn read_values<'t, 'a>(
     alloc: Global,
     tokens: &'t [Token<'a>],
     how: Reading,
@@ -79,7 +79,7 @@ pub(crate) fn values<'t, 'a>(
     let mut rest = tokens;
     let mut more = list;
     while more {
-        match value(rest, how) {
+        match read_value(rest, how) {
             Ok(((value, goes_on), after)) => {
                 found.push(value).map_err(|_| ItemFault::NoMemory)?;
                 rest = same_tokens(after);

@@ -6,7 +6,7 @@ use Rattle.dm_grammar.specs.Told.{filled, collect}
 use Rattle.dm_grammar.specs.Views.{view_word, view_words}
 use Rattle.dm_grammar.proofs.Exits.{handed_on}
 use Rattle.dm_grammar.proofs.Values.{value_told}
-use Rattle.dm_grammar.proofs.value.value.Goals as goal
+use Rattle.dm_grammar.proofs.value.read_value.Goals as goal
 
 pub returns-in_err-words-clause-tells : goal.returns-in_err-words-clause-tells
 returns-in_err-words-clause-tells c =

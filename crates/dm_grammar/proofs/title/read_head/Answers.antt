@@ -3,7 +3,7 @@ use Rattle.dm_grammar.specs.Places.GrammarPlace.{Head, CommandWord, CommandColon
 use Rattle.dm_grammar.specs.Told.{collect}
 use Rattle.dm_grammar.specs.Views.{view_word, view_words}
 use Rattle.dm_grammar.proofs.Titles.{command_word, command_words, group_word, from_command, from_place}
-use Rattle.dm_grammar.proofs.title.head.Goals as goal
+use Rattle.dm_grammar.proofs.title.read_head.Goals as goal
 
 pub returns-in-Diameter-clause-tells : goal.returns-in-Diameter-clause-tells
 returns-in-Diameter-clause-tells c =

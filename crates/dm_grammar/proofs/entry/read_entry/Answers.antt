@@ -4,7 +4,7 @@ use Rattle.dm_grammar.specs.declared.terminal.Terminal.TheVariants.{One}
 use Rattle.dm_grammar.specs.Readers.{begins_with}
 use Rattle.dm_grammar.specs.Views.{view_words}
 use Rattle.dm_grammar.proofs.Rules.{rule_bracket}
-use Rattle.dm_grammar.proofs.entry.entry.Goals as goal
+use Rattle.dm_grammar.proofs.entry.read_entry.Goals as goal
 
 pub returns-else-begins_with_terminal-clause-tells : goal.returns-else-begins_with_terminal-clause-tells
 returns-else-begins_with_terminal-clause-tells c =

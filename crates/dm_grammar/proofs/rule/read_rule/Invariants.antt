@@ -3,7 +3,7 @@ use Rattle.dm_grammar.specs.Places.GrammarPlace.{InRule}
 use Rattle.dm_grammar.specs.Told.{collect}
 use Rattle.dm_grammar.specs.Views.{view_entry, view_words}
 use Rattle.dm_grammar.proofs.RuleEntries.{with_entries}
-use Rattle.dm_grammar.proofs.rule.rule.Given as goal
+use Rattle.dm_grammar.proofs.rule.read_rule.Given as goal
 
 -- the entries read, and what the rest tells
 abbrev pub invariant-loop-how : goal.invariant-loop-how

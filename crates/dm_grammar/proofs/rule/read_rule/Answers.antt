@@ -8,7 +8,7 @@ use Rattle.dm_grammar.specs.Views.{view_entry, view_words}
 use Rattle.dm_grammar.proofs.Plain.{plain}
 use Rattle.dm_grammar.proofs.RuleEntries.{with_entries, with_entries-push, with_entries-fault, with_entries-rule}
 use Rattle.dm_grammar.proofs.Rules.{no_entry}
-use Rattle.dm_grammar.proofs.rule.rule.Goals as goal
+use Rattle.dm_grammar.proofs.rule.read_rule.Goals as goal
 
 pub loop-how-preserved : goal.loop-how-preserved
 loop-how-preserved c =

@@ -5,7 +5,7 @@ use Rattle.dm_grammar.specs.Readers.{behind_brace}
 use Rattle.dm_grammar.specs.Told.{collect}
 use Rattle.dm_grammar.specs.Views.{view_value, view_words}
 use Rattle.dm_grammar.proofs.Values.{with_each, with_each-push, with_each-fault, values_read}
-use Rattle.dm_grammar.proofs.value.values.Goals as goal
+use Rattle.dm_grammar.proofs.value.read_values.Goals as goal
 
 pub loop-more-preserved : goal.loop-more-preserved
 loop-more-preserved c =

@@ -6,7 +6,7 @@ use Rattle.dm_grammar.specs.Views.{view_word, view_words}
 use Rattle.dm_grammar.proofs.Exits.{handed_on}
 use Rattle.dm_grammar.proofs.Heads.{nothing_told}
 use Rattle.dm_grammar.proofs.Titles.{less_title, title_begins}
-use Rattle.dm_grammar.proofs.title.title.Goals as goal
+use Rattle.dm_grammar.proofs.title.read_title.Goals as goal
 
 pub returns-in_err-words-in-Some-clause-tells : goal.returns-in_err-words-in-Some-clause-tells
 returns-in_err-words-in-Some-clause-tells c =

@@ -3,7 +3,7 @@ use Rattle.dm_grammar.specs.Readers.{behind_brace}
 use Rattle.dm_grammar.specs.Told.{collect}
 use Rattle.dm_grammar.specs.Views.{view_value, view_words}
 use Rattle.dm_grammar.proofs.Values.{with_each}
-use Rattle.dm_grammar.proofs.value.values.Given as goal
+use Rattle.dm_grammar.proofs.value.read_values.Given as goal
 
 -- the values read, and what the rest tells
 abbrev pub invariant-loop-more : goal.invariant-loop-more

@@ -1,7 +1,7 @@
 use Rattle.std.proofs.Common.{◌≡◌, ◌+◌, ◌-◌, ◌≤◌, ◌++◌, length, drop, map}
 use Rattle.dm_grammar.specs.Tokens.{tokens_from, tokens}
 use Rattle.dm_grammar.specs.Views.{view_word}
-use Rattle.dm_grammar.proofs.lex.tokens.Given as goal
+use Rattle.dm_grammar.proofs.lex.read_tokens.Given as goal
 
 -- the tokens found, and those of the rest
 abbrev pub invariant-loop-token : goal.invariant-loop-token
