@@ -9,7 +9,7 @@ use crate::said::Task;
 use std::alloc::{AllocError, Global};
 
 /// Appends a line of words behind their number.
-fn put_words(text: &mut String, number: u64, words: &str) -> Result<(), AllocError>
+fn put_numbered_words(text: &mut String, number: u64, words: &str) -> Result<(), AllocError>
     ensures { OnOk result (string_bytes text.new ≡ string_bytes text.old ++ numbered number (words.now ++ 10 ∷ [])) }
 {
     number.put_words(text)?;
@@ -28,7 +28,7 @@ pub(crate) fn put_bad_line(
     ensures { OnOk result (string_bytes text.new ≡ string_bytes text.old ++ bad_said task number words.now) }
 {
     match task {
-        Task::Show | Task::Check => put_words(text, number, words),
+        Task::Show | Task::Check => put_numbered_words(text, number, words),
         Task::ShowJson => put_error_line(alloc, text, "number", number, false, words),
         Task::CheckJson => put_error_line(alloc, text, "number", number, true, words),
     }

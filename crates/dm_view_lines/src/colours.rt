@@ -22,30 +22,30 @@ fn lines_coloured(alloc: Global, task: Task, text: &[u8]) -> Result<Vec<u8>, All
 {
     let mut coloured = Vec::new(alloc);
     for line in Lines::new(text) {
-        push_coloured(&mut coloured, task, line)?;
+        push_coloured_line(&mut coloured, task, line)?;
     }
     Ok(coloured)
 }
 
 /// Appends a line with its colour.
-fn push_coloured(coloured: &mut Vec<u8>, task: Task, line: &[u8]) -> Result<(), AllocError>
+fn push_coloured_line(coloured: &mut Vec<u8>, task: Task, line: &[u8]) -> Result<(), AllocError>
     ensures { OnOk result (coloured.new.items ≡ coloured.old.items ++ line_coloured task line.now) }
 {
-    coloured.extend_from_slice(begun(task, line))?;
+    coloured.extend_from_slice(line_colour(task, line))?;
     coloured.extend_from_slice(line)?;
     coloured.extend_from_slice(b"\x1b[0m\n")?;
     Ok(())
 }
 
 /// What makes a line bold or red.
-fn begun(task: Task, line: &[u8]) -> &'static [u8]
+fn line_colour(task: Task, line: &[u8]) -> &'static [u8]
     ensures { result.now ≡ begun task line.now }
 {
     match line {
         [] => b"",
         [first, ..] => {
             if *first == b' ' {
-                further_in(task)
+                indented_line_colour(task)
             } else {
                 b"\x1b[1m"
             }
@@ -54,7 +54,7 @@ fn begun(task: Task, line: &[u8]) -> &'static [u8]
 }
 
 /// What makes a line that stands further in red, where it is a fault.
-fn further_in(task: Task) -> &'static [u8]
+fn indented_line_colour(task: Task) -> &'static [u8]
     ensures { result.now ≡ further_in task }
 {
     match task {

@@ -29,11 +29,11 @@ pub fn read_line(
     if is_one_word(line) {
         return read_hex_word(alloc, line);
     }
-    read_words(alloc, line, digits)
+    read_hex_words(alloc, line, digits)
 }
 
 /// The octets that the words of a line stand for.
-fn read_words(
+fn read_hex_words(
     alloc: Global,
     line: &[u8],
     digits: &mut Vec<u8>,
@@ -45,7 +45,7 @@ fn read_words(
     if rest.is_empty() {
         return read_hex_word(alloc, without_prefix(word));
     }
-    take_digits(words, digits)?;
+    collect_digits(words, digits)?;
     read_hex_word(alloc, digits.as_slice())
 }
 
@@ -127,7 +127,7 @@ fn without_prefix(word: &[u8]) -> &[u8]
 }
 
 /// Puts the digits of words into `digits`.
-fn take_digits(words: &[u8], digits: &mut Vec<u8>) -> Result<(), AllocError>
+fn collect_digits(words: &[u8], digits: &mut Vec<u8>) -> Result<(), AllocError>
     ensures { OnOk result (digits.new.items ≡ digits_of_words words.now) }
 {
     digits.clear();

@@ -35,7 +35,7 @@ pub fn write_end<W: Write>(
 }
 
 /// Writes what ends the text of lines: under a check how many were good and bad. True where none was bad.
-pub(crate) fn end_lines<W: Write>(
+pub(crate) fn write_lines_end<W: Write>(
     alloc: Global,
     style: Style,
     tally: Tally,
@@ -96,7 +96,7 @@ fn write_stop<W: Write>(
 }
 
 /// Writes what ends the text of a stream. True where all of it was good.
-pub(crate) fn end_stream<W: Write>(
+pub(crate) fn write_stream_end<W: Write>(
     alloc: Global,
     style: Style,
     tally: Tally,

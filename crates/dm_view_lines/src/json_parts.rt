@@ -12,7 +12,11 @@ use dm_view::{JsonText, put_json_verdict};
 use std::alloc::{AllocError, Global};
 
 /// Opens an object with its number under this key.
-pub(crate) fn put_number(json: &mut JsonText, name: &str, number: u64) -> Result<(), AllocError>
+pub(crate) fn open_numbered_object(
+    json: &mut JsonText,
+    name: &str,
+    number: u64,
+) -> Result<(), AllocError>
     ensures { OnOk result (json.new
         ≡ json.old ++ begin_object ∷ key name.now ∷ json_tokens (number_json number)) }
 {
@@ -22,7 +26,7 @@ pub(crate) fn put_number(json: &mut JsonText, name: &str, number: u64) -> Result
 }
 
 /// Appends what is wrong, in words, and closes the object.
-pub(crate) fn put_error(json: &mut JsonText, words: &str) -> Result<(), AllocError>
+pub(crate) fn put_error_and_close(json: &mut JsonText, words: &str) -> Result<(), AllocError>
     ensures { OnOk result (json.new ≡ json.old ++ members_tokens (error_member words.now)) }
 {
     json.text_member("error", words)?;
@@ -30,7 +34,7 @@ pub(crate) fn put_error(json: &mut JsonText, words: &str) -> Result<(), AllocErr
 }
 
 /// Appends that it is bad, where it is checked.
-pub(crate) fn put_bad(json: &mut JsonText, is_checked: bool) -> Result<(), AllocError>
+pub(crate) fn put_bad_if_checked(json: &mut JsonText, is_checked: bool) -> Result<(), AllocError>
     ensures { (more : Members) → OnOk result (json.new ++ members_tokens more
         ≡ json.old ++ members_tokens (if is_checked then bad_members more else more)) }
 {
@@ -52,9 +56,9 @@ fn put_error_object(
     ensures { OnOk result (json.new ≡ json.old ++ json_tokens (object (member name.now (number_json number)
         (if is_checked then bad_members (error_member words.now) else error_member words.now)))) }
 {
-    put_number(json, name, number)?;
-    put_bad(json, is_checked)?;
-    put_error(json, words)?;
+    open_numbered_object(json, name, number)?;
+    put_bad_if_checked(json, is_checked)?;
+    put_error_and_close(json, words)?;
     Ok(())
 }
 
@@ -76,10 +80,10 @@ pub(crate) fn put_error_line(
 }
 
 /// Appends how many lines were good and bad, as an object.
-fn put_counts(json: &mut JsonText, tally: Tally) -> Result<(), AllocError>
+fn put_counts_object(json: &mut JsonText, tally: Tally) -> Result<(), AllocError>
     ensures { OnOk result (json.new ≡ json.old ++ json_tokens (tally_json tally)) }
 {
-    put_number(json, "good", tally.good)?;
+    open_numbered_object(json, "good", tally.good)?;
     json.key("bad")?;
     json.number(tally.bad)?;
     json.end_object()
@@ -94,6 +98,6 @@ pub(crate) fn put_json_tally(
     ensures { OnOk result (string_bytes text.new ≡ string_bytes text.old ++ json_line (tally_json tally)) }
 {
     let mut json = JsonText::new(alloc);
-    put_counts(&mut json, tally)?;
+    put_counts_object(&mut json, tally)?;
     json.put_line(text)
 }

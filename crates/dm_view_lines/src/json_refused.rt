@@ -8,16 +8,16 @@ ghost use Rattle.dm_view_lines.specs.Json.{fronted_json, error_member, bad_membe
 ghost use Rattle.dm_view_lines.specs.Reasons.{refusal_sentence};
 
 use crate::front::Front;
-use crate::json_parts::{put_bad, put_error};
+use crate::json_parts::{put_bad_if_checked, put_error_and_close};
 use crate::reasons::refusal_sentence;
-use crate::refused::front_of;
+use crate::refused::message_to_bad_avp;
 use dm_dict::Dictionary;
 use dm_view::{JsonText, put_json_header, put_json_message};
 use dm_wire::WireFault;
 use std::alloc::{AllocError, Global};
 
 /// Appends the message up to a bad AVP, as members of an object that is open.
-fn put_shown_before(
+fn put_json_front_shown(
     json: &mut JsonText,
     dictionary: &Dictionary,
     octets: &[u8],
@@ -29,7 +29,7 @@ fn put_shown_before(
 {
     match fault {
         WireFault::AvpLength(offset) => {
-            put_json_message(json, dictionary, &front_of(octets, offset))
+            put_json_message(json, dictionary, &message_to_bad_avp(octets, offset))
         }
         WireFault::TooShort
         | WireFault::Version
@@ -40,7 +40,7 @@ fn put_shown_before(
 }
 
 /// Appends the header of a message with a bad AVP, as a member of an object that is open.
-fn put_checked_before(
+fn put_json_front_checked(
     json: &mut JsonText,
     dictionary: &Dictionary,
     octets: &[u8],
@@ -53,7 +53,7 @@ fn put_checked_before(
     match fault {
         WireFault::AvpLength(offset) => {
             json.key("header")?;
-            put_json_header(json, dictionary, &front_of(octets, offset).header)
+            put_json_header(json, dictionary, &message_to_bad_avp(octets, offset).header)
         }
         WireFault::TooShort
         | WireFault::Version
@@ -68,11 +68,11 @@ fn put_reason(alloc: Global, json: &mut JsonText, fault: WireFault) -> Result<()
     ensures { OnOk result (json.new ≡ json.old ++ members_tokens (error_member (refusal_sentence fault))) }
 {
     let words = refusal_sentence(alloc, fault)?;
-    put_error(json, words.as_str())
+    put_error_and_close(json, words.as_str())
 }
 
 /// Appends the object that shows octets that are no message, behind this front.
-fn put_shown_object<F: Front>(
+fn put_shown_refusal_object<F: Front>(
     alloc: Global,
     json: &mut JsonText,
     dictionary: &Dictionary,
@@ -86,7 +86,7 @@ fn put_shown_object<F: Front>(
 {
     json.begin_object()?;
     front.put_members(alloc, json)?;
-    put_shown_before(json, dictionary, octets, fault)?;
+    put_json_front_shown(json, dictionary, octets, fault)?;
     put_reason(alloc, json, fault)?;
     Ok(())
 }
@@ -105,12 +105,12 @@ pub(crate) fn put_json_shown_refusal<F: Front>(
         (shown_before dictionary.now octets.now fault (error_member (refusal_sentence fault)))) }
 {
     let mut json = JsonText::new(alloc);
-    put_shown_object(alloc, &mut json, dictionary, front, octets, fault)?;
+    put_shown_refusal_object(alloc, &mut json, dictionary, front, octets, fault)?;
     json.put_line(text)
 }
 
 /// Appends the object that a check gives of octets that are no message, behind this front.
-fn put_checked_object<F: Front>(
+fn put_checked_refusal_object<F: Front>(
     alloc: Global,
     json: &mut JsonText,
     dictionary: &Dictionary,
@@ -124,8 +124,8 @@ fn put_checked_object<F: Front>(
 {
     json.begin_object()?;
     front.put_members(alloc, json)?;
-    put_bad(json, true)?;
-    put_checked_before(json, dictionary, octets, fault)?;
+    put_bad_if_checked(json, true)?;
+    put_json_front_checked(json, dictionary, octets, fault)?;
     put_reason(alloc, json, fault)?;
     Ok(())
 }
@@ -144,6 +144,6 @@ pub(crate) fn put_json_checked_refusal<F: Front>(
         (bad_members (checked_before dictionary.now octets.now fault (error_member (refusal_sentence fault))))) }
 {
     let mut json = JsonText::new(alloc);
-    put_checked_object(alloc, &mut json, dictionary, front, octets, fault)?;
+    put_checked_refusal_object(alloc, &mut json, dictionary, front, octets, fault)?;
     json.put_line(text)
 }

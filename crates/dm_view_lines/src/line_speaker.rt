@@ -3,7 +3,7 @@ ghost use Rattle.std.specs.Prelude.{◌≡◌, true};
 ghost use Rattle.dm_view_lines.specs.Counts.{no_lines};
 ghost use Rattle.dm_view_lines.specs.Speakers.{CountsOneLine};
 
-use crate::lines::put_line;
+use crate::lines::put_line_report;
 use crate::said::Task;
 use crate::speaker::Speaker;
 use crate::tally::Tally;
@@ -54,7 +54,7 @@ impl Speaker for LineSpeaker {
         if self.tally.next().is_none() {
             return Err(NoMemory);
         }
-        let verdict = put_line(
+        let verdict = put_line_report(
             alloc,
             text,
             dictionary,

@@ -16,7 +16,7 @@ use std::alloc::Global;
 
 /// Appends what is said of the line of this number, and tells whether it is good; `None` where it says nothing.
 /// `digits` is room that is used again from line to line.
-pub(crate) fn put_line(
+pub(crate) fn put_line_report(
     alloc: Global,
     text: &mut String,
     dictionary: &Dictionary,
@@ -29,7 +29,7 @@ pub(crate) fn put_line(
         × SaysLine task dictionary.now number (octets_of_line line.now) more verdict) }
 {
     match read_line(alloc, line, digits)? {
-        Some(octets) => put_numbered(alloc, text, dictionary, task, number, octets.as_slice()),
+        Some(octets) => put_octets_report(alloc, text, dictionary, task, number, octets.as_slice()),
         None => {
             put_bad_line(alloc, text, task, number, "no hexadecimal")?;
             Ok(Some(false))
@@ -39,7 +39,7 @@ pub(crate) fn put_line(
 
 /// Appends what is said of the octets of the line of this number, and tells whether they are good; `None` where there
 /// are none.
-fn put_numbered(
+fn put_octets_report(
     alloc: Global,
     text: &mut String,
     dictionary: &Dictionary,
@@ -58,7 +58,7 @@ fn put_numbered(
 }
 
 /// Appends what is said of the lines of an input, and tells how many are good and bad.
-fn put_lines(
+fn put_lines_report(
     alloc: Global,
     text: &mut String,
     dictionary: &Dictionary,
@@ -74,7 +74,7 @@ fn put_lines(
     let mut number: u64 = 0;
     for line in Lines::new(input) {
         number += 1;
-        let verdict = put_line(alloc, text, dictionary, task, number, line, &mut digits)?;
+        let verdict = put_line_report(alloc, text, dictionary, task, number, line, &mut digits)?;
         tally = tally.with(verdict);
     }
     Ok(tally)
@@ -90,7 +90,7 @@ pub fn lines_text(
     ensures { IfOk result (λ said. Says task dictionary.now input.now said.0.items said.1) }
 {
     let mut text = String::new(alloc);
-    let tally = put_lines(alloc, &mut text, dictionary, task, input)?;
+    let tally = put_lines_report(alloc, &mut text, dictionary, task, input)?;
     put_last(alloc, &mut text, task, tally)?;
     Ok((text.into_bytes(), tally.bad == 0))
 }

@@ -14,14 +14,14 @@ pub(crate) fn is_one_word(line: &[u8]) -> bool
     if line.len() < 16 {
         return false;
     }
-    if has_front(line) {
+    if has_mark_or_prefix(line) {
         return false;
     }
-    none_ends(line)
+    has_no_word_end(line)
 }
 
 /// Whether a byte order mark or `0x` may stand in front.
-fn has_front(line: &[u8]) -> bool
+fn has_mark_or_prefix(line: &[u8]) -> bool
     ensures mark { result ≡ false → without_mark line.now ≡ line.now }
     ensures prefix { result ≡ false → without_prefix line.now ≡ line.now }
 {
@@ -32,35 +32,35 @@ fn has_front(line: &[u8]) -> bool
 }
 
 /// Whether no octet of the line may end a word.
-fn none_ends(line: &[u8]) -> bool
+fn has_no_word_end(line: &[u8]) -> bool
     requires { 16 ≤ length line.now }
     ensures { result ≡ true → NoneEnds line.now (length line.now) }
 {
-    let last = marks_of(u8x16::from_slice(&line[line.len() - 16..]));
-    let first = marks_of(u8x16::from_slice(line));
-    if !are_high(lower_of(first, last)) {
+    let last = word_end_marks(u8x16::from_slice(&line[line.len() - 16..]));
+    let first = word_end_marks(u8x16::from_slice(line));
+    if !are_marks_high(lower_marks(first, last)) {
         return false;
     }
-    let lowest = marks_of_runs(line, (line.len() - 1) / 16);
-    are_high(lower_of(lowest, last))
+    let lowest = lowest_run_marks(line, (line.len() - 1) / 16);
+    are_marks_high(lower_marks(lowest, last))
 }
 
 /// The lowest mark of each lane in so many runs of sixteen octets.
-fn marks_of_runs(line: &[u8], runs: usize) -> u8x16
+fn lowest_run_marks(line: &[u8], runs: usize) -> u8x16
     requires { 16 * runs ≤ length line.now }
     ensures { low_marks result ≡ 0 → NoneEnds line.now (16 * runs) }
 {
     let mut lowest = u8x16::splat(255);
     'runs: for k in 0..runs {
-        let marks = marks_of(u8x16::from_slice(&line[16 * k..]));
-        lowest = lower_of(lowest, marks);
+        let marks = word_end_marks(u8x16::from_slice(&line[16 * k..]));
+        lowest = lower_marks(lowest, marks);
     }
     lowest
 }
 
 /// A mark for each octet: less than 128 where it may end a word.
 #[inline(always)]
-fn marks_of(octets: u8x16) -> u8x16
+fn word_end_marks(octets: u8x16) -> u8x16
     ensures { map (λ mark. nat_lt mark 128) result ≡ map ends_digits octets }
 {
     let numbers = (octets + u8x16::splat(198)).saturating_sub(u8x16::splat(118));
@@ -69,7 +69,7 @@ fn marks_of(octets: u8x16) -> u8x16
 
 /// The lower mark of each lane.
 #[inline(always)]
-fn lower_of(marks: u8x16, others: u8x16) -> u8x16
+fn lower_marks(marks: u8x16, others: u8x16) -> u8x16
     ensures first { low_marks result ≡ 0 → low_marks marks ≡ 0 }
     ensures second { low_marks result ≡ 0 → low_marks others ≡ 0 }
 {
@@ -78,7 +78,7 @@ fn lower_of(marks: u8x16, others: u8x16) -> u8x16
 
 /// Whether no mark is low.
 #[inline(always)]
-fn are_high(marks: u8x16) -> bool
+fn are_marks_high(marks: u8x16) -> bool
     ensures { result ≡ true → low_marks marks ≡ 0 }
 {
     marks.simd_lt(u8x16::splat(128)).to_bitmask() == 0

@@ -12,7 +12,7 @@ ghost use Rattle.dm_view_lines.specs.Came.{goes_further};
 use crate::gathered::{Style, write_waiting};
 use crate::put_fault::PutFault;
 use crate::run_fault::RunFault;
-use crate::seam::{Seam, put_last, put_ready};
+use crate::seam::{Seam, tell_last_line, tell_piece};
 use crate::speaker::Speaker;
 use crate::turns::Output;
 use dm_dict::Dictionary;
@@ -32,7 +32,7 @@ pub(crate) enum Came {
 }
 
 /// Writes what waits, unless it was a write that failed.
-fn write_behind<W: Write>(
+fn write_unless_failed<W: Write>(
     put: Result<bool, PutFault>,
     output: &mut Output,
     writer: &mut W,
@@ -53,7 +53,7 @@ fn write_behind<W: Write>(
     }
 }
 
-/// Says the lines that end in these octets, as `put_ready` does, and writes that.
+/// Says the lines that end in these octets, as `tell_piece` does, and writes that.
 fn say_octets<S: Speaker, W: Write>(
     alloc: Global,
     dictionary: &Dictionary,
@@ -79,14 +79,14 @@ fn say_octets<S: Speaker, W: Write>(
         seam.old.lines speaker.old seam.old.held.items octets.now fault (W.contents writer.old) []
         (W.contents writer.new) []) }
 {
-    let put = put_ready(
+    let put = tell_piece(
         alloc, dictionary, style, speaker, seam, octets, output, writer,
     );
-    write_behind(put, output, writer)
+    write_unless_failed(put, output, writer)
 }
 
-/// An interrupted read is made again.
-fn none_read(error: Error) -> Came
+/// What a read that failed comes to: an interrupted one is made again.
+fn retry_if_interrupted(error: Error) -> Came
     ensures goes { goes_further result ≡ true }
     ensures more { result ≢ Came.End }
 {
@@ -97,7 +97,7 @@ fn none_read(error: Error) -> Came
 }
 
 /// Says the lines that end in what the reader has at hand, writes that, and takes it.
-fn say_ready<S: Speaker, R: BufRead, W: Write>(
+fn say_buffered<S: Speaker, R: BufRead, W: Write>(
     alloc: Global,
     dictionary: &Dictionary,
     style: Style,
@@ -127,7 +127,7 @@ fn say_ready<S: Speaker, R: BufRead, W: Write>(
 {
     let octets = match reader.fill_buf() {
         Ok(octets) => octets,
-        Err(error) => return Ok(none_read(error)),
+        Err(error) => return Ok(retry_if_interrupted(error)),
     };
     let size = octets.len();
     if size == 0 {
@@ -137,11 +137,11 @@ fn say_ready<S: Speaker, R: BufRead, W: Write>(
         alloc, dictionary, style, speaker, seam, octets, output, writer,
     )?;
     reader.consume(size);
-    Ok(behind_octets(going))
+    Ok(more_or_enough(going))
 }
 
-/// What octets come to that were read.
-fn behind_octets(going: bool) -> Came
+/// What octets come to that were read: whether more is to be said.
+fn more_or_enough(going: bool) -> Came
     ensures goes { goes_further result ≡ going }
     ensures more { result ≢ Came.End }
 {
@@ -149,7 +149,7 @@ fn behind_octets(going: bool) -> Came
 }
 
 /// Says the line that is held at the end of the input, and writes that.
-fn say_end<S: Speaker, W: Write>(
+fn say_last_line<S: Speaker, W: Write>(
     alloc: Global,
     dictionary: &Dictionary,
     style: Style,
@@ -170,12 +170,12 @@ fn say_end<S: Speaker, W: Write>(
         seam.old.lines speaker.old (lines (ended seam.old.held.items)) [] fault (W.contents writer.old) []
         (W.contents writer.new) []) }
 {
-    let put = put_last(alloc, dictionary, style, speaker, seam, output, writer);
-    write_behind(put, output, writer)
+    let put = tell_last_line(alloc, dictionary, style, speaker, seam, output, writer);
+    write_unless_failed(put, output, writer)
 }
 
 /// Says the lines of a reader.
-fn say_pieces<S: Speaker, R: BufRead, W: Write>(
+fn say_all_buffered<S: Speaker, R: BufRead, W: Write>(
     alloc: Global,
     dictionary: &Dictionary,
     style: Style,
@@ -199,12 +199,12 @@ fn say_pieces<S: Speaker, R: BufRead, W: Write>(
         (W.contents writer.new)) }
 {
     for _ in 0..u64::MAX {
-        match say_ready(
+        match say_buffered(
             alloc, dictionary, style, speaker, seam, output, reader, writer,
         )? {
             Came::More => {}
             Came::End => {
-                let going = say_end(alloc, dictionary, style, speaker, seam, output, writer)?;
+                let going = say_last_line(alloc, dictionary, style, speaker, seam, output, writer)?;
                 return Ok(going);
             }
             Came::Enough => return Ok(false),
@@ -243,7 +243,7 @@ pub(crate) fn say_reader<S: Speaker, R: BufRead, W: Write>(
         text: String::new(alloc),
         waits: Vec::new(alloc),
     };
-    let done = say_pieces(
+    let done = say_all_buffered(
         alloc,
         dictionary,
         style,

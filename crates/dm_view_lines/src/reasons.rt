@@ -30,7 +30,7 @@ fn put_refusal_words(text: &mut String, fault: WireFault) -> Result<(), AllocErr
 }
 
 /// Appends why octets are no message.
-fn put_sentence(text: &mut String, fault: WireFault) -> Result<(), AllocError>
+fn put_refusal_sentence(text: &mut String, fault: WireFault) -> Result<(), AllocError>
     ensures { OnOk result (string_bytes text.new ≡ string_bytes text.old ++ refusal_sentence fault) }
 {
     text.push_str("no message: ")?;
@@ -39,10 +39,10 @@ fn put_sentence(text: &mut String, fault: WireFault) -> Result<(), AllocError>
 }
 
 /// Appends the line that says why octets are no message.
-pub(crate) fn put_refusal(text: &mut String, fault: WireFault) -> Result<(), AllocError>
+pub(crate) fn put_refusal_line(text: &mut String, fault: WireFault) -> Result<(), AllocError>
     ensures { OnOk result (string_bytes text.new ≡ string_bytes text.old ++ refusal_sentence fault ++ 10 ∷ []) }
 {
-    put_sentence(text, fault)?;
+    put_refusal_sentence(text, fault)?;
     text.push_str("\n")?;
     Ok(())
 }
@@ -52,6 +52,6 @@ pub(crate) fn refusal_sentence(alloc: Global, fault: WireFault) -> Result<String
     ensures { IfOk result (λ words. string_bytes words ≡ refusal_sentence fault) }
 {
     let mut words = String::new(alloc);
-    put_sentence(&mut words, fault)?;
+    put_refusal_sentence(&mut words, fault)?;
     Ok(words)
 }

@@ -10,7 +10,7 @@ ghost use Rattle.dm_view_lines.specs.Said.{front_shown, front_checked, before_re
 
 use crate::front::Front;
 use crate::header::header_of;
-use crate::reasons::put_refusal;
+use crate::reasons::put_refusal_line;
 use dm_dict::Dictionary;
 use dm_view::{put_header, put_message};
 use dm_wire::laws::spelled_are_members;
@@ -18,7 +18,7 @@ use dm_wire::{MessageRef, WireFault};
 use std::alloc::AllocError;
 
 /// The message up to the first bad AVP, which begins at this octet.
-pub(crate) fn front_of(octets: &[u8], offset: usize) -> MessageRef<'_>
+pub(crate) fn message_to_bad_avp(octets: &[u8], offset: usize) -> MessageRef<'_>
     requires bad { IsBadAt 20 octets.now offset }
     ensures header { result.header ≡ header_in octets.now }
     ensures avps { SpellsList (avps_before octets.now offset) result.rest.now }
@@ -45,7 +45,7 @@ fn put_front_shown(
 {
     match fault {
         WireFault::AvpLength(offset) => {
-            put_message(text, dictionary, &front_of(octets, offset))?;
+            put_message(text, dictionary, &message_to_bad_avp(octets, offset))?;
             text.push_str("  ")?;
             Ok(())
         }
@@ -71,7 +71,7 @@ fn put_front_checked(
     match fault {
         WireFault::AvpLength(offset) => {
             text.push_str("bad ")?;
-            put_header(text, dictionary, &front_of(octets, offset).header)?;
+            put_header(text, dictionary, &message_to_bad_avp(octets, offset).header)?;
             text.push_str("  ")?;
             Ok(())
         }
@@ -97,7 +97,7 @@ pub(crate) fn put_shown_refusal<F: Front>(
 {
     front.put_words(text)?;
     put_front_shown(text, dictionary, octets, fault)?;
-    put_refusal(text, fault)?;
+    put_refusal_line(text, fault)?;
     Ok(())
 }
 
@@ -115,6 +115,6 @@ pub(crate) fn put_checked_refusal<F: Front>(
 {
     front.put_words(text)?;
     put_front_checked(text, dictionary, octets, fault)?;
-    put_refusal(text, fault)?;
+    put_refusal_line(text, fault)?;
     Ok(())
 }

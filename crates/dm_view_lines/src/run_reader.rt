@@ -7,7 +7,7 @@ ghost use Rattle.dm_view_lines.specs.Ending.{EndsLines, EndsStream};
 ghost use Rattle.dm_view_lines.specs.LineEnds.{ended};
 ghost use Rattle.dm_view_lines.specs.declared.turns.TheConstants.{LINE_LIMIT as line_limit};
 
-use crate::ending::{end_lines, end_stream};
+use crate::ending::{write_lines_end, write_stream_end};
 use crate::gathered::Style;
 use crate::line_speaker::LineSpeaker;
 use crate::reading::say_reader;
@@ -48,7 +48,7 @@ pub fn say_lines<R: BufRead, W: Write>(
     let tally = speaker.tally();
     drop(speaker);
     match said {
-        Ok(_) => end_lines(alloc, style, tally, writer),
+        Ok(_) => write_lines_end(alloc, style, tally, writer),
         Err(fault) => Err(fault),
     }
 }
@@ -79,7 +79,7 @@ pub fn say_stream<R: BufRead, W: Write>(
     let stop = speaker.stop();
     drop(speaker);
     match said {
-        Ok(_) => end_stream(alloc, style, tally, stop, writer),
+        Ok(_) => write_stream_end(alloc, style, tally, stop, writer),
         Err(fault) => Err(fault),
     }
 }

@@ -46,16 +46,16 @@ pub fn put_octets<F: Front>(
         × SaysFronted task dictionary.now (F.before front.now) octets.now more good) }
 {
     match MessageRef::read(octets) {
-        Ok(message) => put_answer(alloc, text, dictionary, task, front, &message),
+        Ok(message) => put_message_report(alloc, text, dictionary, task, front, &message),
         Err(fault) => {
-            put_refused(alloc, text, dictionary, task, front, octets, fault)?;
+            put_refusal_report(alloc, text, dictionary, task, front, octets, fault)?;
             Ok(false)
         }
     }
 }
 
 /// Appends what is said of a message behind this front, and tells whether it is good.
-fn put_answer<F: Front>(
+fn put_message_report<F: Front>(
     alloc: Global,
     text: &mut String,
     dictionary: &Dictionary,
@@ -73,17 +73,17 @@ fn put_answer<F: Front>(
 {
     match task {
         Task::Show => {
-            put_shown(text, dictionary, front, message)?;
+            put_shown_message(text, dictionary, front, message)?;
             Ok(true)
         }
-        Task::Check => put_checked(alloc, text, dictionary, front, message),
+        Task::Check => put_checked_message(alloc, text, dictionary, front, message),
         Task::ShowJson => put_json_shown(alloc, text, dictionary, front, message),
         Task::CheckJson => put_json_checked(alloc, text, dictionary, front, message),
     }
 }
 
 /// Appends what a message says, behind this front.
-fn put_shown<F: Front>(
+fn put_shown_message<F: Front>(
     text: &mut String,
     dictionary: &Dictionary,
     front: &F,
@@ -100,7 +100,7 @@ fn put_shown<F: Front>(
 }
 
 /// Appends all that is wrong with a message, behind this front, and tells whether it is good.
-fn put_checked<F: Front>(
+fn put_checked_message<F: Front>(
     alloc: Global,
     text: &mut String,
     dictionary: &Dictionary,
@@ -120,7 +120,7 @@ fn put_checked<F: Front>(
 }
 
 /// Appends what is said of octets that are no message, behind this front.
-fn put_refused<F: Front>(
+fn put_refusal_report<F: Front>(
     alloc: Global,
     text: &mut String,
     dictionary: &Dictionary,

@@ -11,7 +11,7 @@ use crate::files::is_ended;
 use crate::gathered::Style;
 use crate::put_fault::PutFault;
 use crate::speaker::Speaker;
-use crate::turns::{LINE_LIMIT, Output, put_lines};
+use crate::turns::{LINE_LIMIT, Output, tell_lines};
 use dm_dict::Dictionary;
 use memchr::{memchr, memrchr};
 use std::alloc::Global;
@@ -25,7 +25,7 @@ pub(crate) struct Seam {
 }
 
 /// The front of the octets that ends with their last line feed, as its length.
-fn whole_len(octets: &[u8]) -> usize
+fn whole_lines_len(octets: &[u8]) -> usize
     ensures within { result ≤ length octets.now }
     ensures whole { HasLineEnds (take result octets.now) }
     ensures rest { All (λ b. b ≢ 10) (drop result octets.now) }
@@ -38,7 +38,7 @@ fn whole_len(octets: &[u8]) -> usize
 
 /// Holds a piece of a line, without its end, behind what is held. It fails where the line has too many octets, whatever
 /// comes: one octet more may be a CR before its end.
-fn hold(seam: &mut Seam, piece: &[u8]) -> Result<(), PutFault>
+fn hold_piece(seam: &mut Seam, piece: &[u8]) -> Result<(), PutFault>
     ensures held { OnOk result (seam.new.held.items ≡ seam.old.held.items ++ piece.now) }
     ensures lines { seam.new.lines ≡ seam.old.lines }
     ensures long { All (λ b. b ≢ 10) (seam.old.held.items ++ piece.now) → IfErr result (λ fault.
@@ -55,7 +55,7 @@ fn hold(seam: &mut Seam, piece: &[u8]) -> Result<(), PutFault>
 }
 
 /// Says the line that is held and ends with these octets. True where more is to be said.
-fn put_first<S: Speaker, W: Write>(
+fn tell_held_line<S: Speaker, W: Write>(
     alloc: Global,
     dictionary: &Dictionary,
     style: Style,
@@ -79,7 +79,7 @@ fn put_first<S: Speaker, W: Write>(
 {
     seam.held.extend_from_slice(front)?;
     let before = seam.lines;
-    let (number, going) = put_lines(
+    let (number, going) = tell_lines(
         alloc,
         dictionary,
         style,
@@ -96,7 +96,7 @@ fn put_first<S: Speaker, W: Write>(
 
 /// Says the lines that end in these octets, and holds what is left of them; nothing is held before. True where more is
 /// to be said.
-fn put_rest<S: Speaker, W: Write>(
+fn tell_whole_lines<S: Speaker, W: Write>(
     alloc: Global,
     dictionary: &Dictionary,
     style: Style,
@@ -118,9 +118,9 @@ fn put_rest<S: Speaker, W: Write>(
         (S.says dictionary.now style.task) seam.old.lines speaker.old [] octets.now fault (W.contents writer.old)
         output.old.waits.items (W.contents writer.new) output.new.waits.items) }
 {
-    let end = whole_len(octets);
+    let end = whole_lines_len(octets);
     let before = seam.lines;
-    let (number, going) = put_lines(
+    let (number, going) = tell_lines(
         alloc,
         dictionary,
         style,
@@ -132,14 +132,14 @@ fn put_rest<S: Speaker, W: Write>(
     )?;
     seam.lines = number;
     if going {
-        hold(seam, &octets[end..])?;
+        hold_piece(seam, &octets[end..])?;
     }
     Ok(going)
 }
 
 /// Says the lines that end in these octets, the first of which began with what is held, and holds what is left of them.
 /// True where more is to be said.
-pub(crate) fn put_ready<S: Speaker, W: Write>(
+pub(crate) fn tell_piece<S: Speaker, W: Write>(
     alloc: Global,
     dictionary: &Dictionary,
     style: Style,
@@ -162,23 +162,23 @@ pub(crate) fn put_ready<S: Speaker, W: Write>(
         (W.contents writer.old) output.old.waits.items (W.contents writer.new) output.new.waits.items) }
 {
     if seam.held.is_empty() {
-        return put_rest(
+        return tell_whole_lines(
             alloc, dictionary, style, speaker, seam, octets, output, writer,
         );
     }
     match memchr(b'\n', octets) {
         None => {
-            hold(seam, octets)?;
+            hold_piece(seam, octets)?;
             Ok(true)
         }
         Some(at) => {
             let front = &octets[..at + 1];
-            if !put_first(
+            if !tell_held_line(
                 alloc, dictionary, style, speaker, seam, front, output, writer,
             )? {
                 return Ok(false);
             }
-            put_rest(
+            tell_whole_lines(
                 alloc,
                 dictionary,
                 style,
@@ -193,7 +193,7 @@ pub(crate) fn put_ready<S: Speaker, W: Write>(
 }
 
 /// Says the line that is held, which ends with the input, where one is. True where more could be said.
-pub(crate) fn put_last<S: Speaker, W: Write>(
+pub(crate) fn tell_last_line<S: Speaker, W: Write>(
     alloc: Global,
     dictionary: &Dictionary,
     style: Style,
@@ -217,7 +217,7 @@ pub(crate) fn put_last<S: Speaker, W: Write>(
         seam.held.extend_from_slice(b"\n")?;
     }
     let before = seam.lines;
-    let (number, going) = put_lines(
+    let (number, going) = tell_lines(
         alloc,
         dictionary,
         style,

@@ -39,7 +39,7 @@ fn wire_fault(fault: FrameFault) -> WireFault
 }
 
 /// Appends that the line of this number is no hexadecimal.
-fn put_line_stopped(
+fn put_no_hex_line(
     alloc: Global,
     text: &mut String,
     task: Task,
@@ -55,7 +55,7 @@ fn put_line_stopped(
 }
 
 /// Appends why a stream is read no further, behind messages of which the last has the number before this one.
-fn put_line(
+fn put_stop_line(
     alloc: Global,
     text: &mut String,
     task: Task,
@@ -69,7 +69,7 @@ fn put_line(
             let words = refusal_sentence(alloc, wire_fault(fault))?;
             put_bad_line(alloc, text, task, number, words.as_str())
         }
-        Stop::Line(line) => put_line_stopped(alloc, text, task, line),
+        Stop::Line(line) => put_no_hex_line(alloc, text, task, line),
         Stop::Part(size) => {
             let words = part_words(alloc, size)?;
             put_bad_line(alloc, text, task, number, words.as_str())
@@ -101,6 +101,6 @@ pub(crate) fn put_stop(
     let Some(number) = tally.next() else {
         return Err(NoMemory);
     };
-    put_line(alloc, text, task, number, stop)?;
+    put_stop_line(alloc, text, task, number, stop)?;
     Ok(tally.with(Some(false)))
 }

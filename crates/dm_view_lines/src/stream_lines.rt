@@ -24,7 +24,7 @@ use dm_wire::codes::limits::MAX_MESSAGE_LEN;
 use std::alloc::Global;
 
 /// Adds a piece to the octets that the framer holds, and appends what is said of the messages that are whole then.
-fn put_piece(
+fn put_stream_piece(
     alloc: Global,
     text: &mut String,
     dictionary: &Dictionary,
@@ -59,9 +59,9 @@ fn put_piece(
     )
 }
 
-/// Adds the octets of the line of this number, as `put_piece` does, and tells where the stream stops at it: where it is
-/// no hexadecimal nothing is added.
-pub(crate) fn put_line(
+/// Adds the octets of the line of this number, as `put_stream_piece` does, and tells where the stream stops at it:
+/// where it is no hexadecimal nothing is added.
+pub(crate) fn put_stream_line(
     alloc: Global,
     text: &mut String,
     dictionary: &Dictionary,
@@ -88,7 +88,7 @@ pub(crate) fn put_line(
     let Some(piece) = read_line(alloc, line, digits)? else {
         return Ok((reading, Some(Stop::Line(number))));
     };
-    let read = put_piece(
+    let read = put_stream_piece(
         alloc,
         text,
         dictionary,
@@ -128,7 +128,7 @@ fn put_stream(
     let mut number: u64 = 0;
     for line in Lines::new(input) {
         number += 1;
-        let (read, stop) = put_line(
+        let (read, stop) = put_stream_line(
             alloc,
             text,
             dictionary,
@@ -144,11 +144,11 @@ fn put_stream(
             return Ok((reading.tally, stop));
         }
     }
-    Ok((reading.tally, part_of(reading.held)))
+    Ok((reading.tally, partial_stop(reading.held)))
 }
 
 /// That a stream ends in the middle of a message, where so many octets are left.
-pub(crate) fn part_of(held: usize) -> Option<Stop>
+pub(crate) fn partial_stop(held: usize) -> Option<Stop>
     ensures { (rest : List ℕ) → held ≡ length rest → result ≡ stop_of rest None None }
 {
     if held == 0 {

@@ -8,7 +8,7 @@ use crate::frames::Reading;
 use crate::said::Task;
 use crate::speaker::Speaker;
 use crate::stop::Stop;
-use crate::stream_lines::{part_of, put_line};
+use crate::stream_lines::{partial_stop, put_stream_line};
 use crate::tally::Tally;
 use dm_dict::{Dictionary, NoMemory};
 use dm_framer::Framer;
@@ -59,7 +59,7 @@ impl StreamSpeaker {
     {
         match self.stop {
             Some(stop) => Some(stop),
-            None => part_of(self.reading.held),
+            None => partial_stop(self.reading.held),
         }
     }
 }
@@ -79,7 +79,7 @@ impl Speaker for StreamSpeaker {
         text: &mut String,
     ) -> Result<bool, NoMemory> {
         let reading = self.reading;
-        let (read, stop) = put_line(
+        let (read, stop) = put_stream_line(
             alloc,
             text,
             dictionary,

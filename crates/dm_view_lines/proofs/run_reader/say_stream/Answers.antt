@@ -22,11 +22,13 @@ returns-in-Ok g c =
     } in
     record {
       written = stream_ended cuts stays frames _ _ _ c.new-speaker.result c.say_reader-said.new.speaker
-          c.in-Ok.field-0.0 c.in-Ok.field-0.1 c.stop-stop.result c.tally-tally.result c.end_stream.result _ _ _ _ by
-          c.in-Ok.ensures.told c.end_stream.ensures.written;
+          c.in-Ok.field-0.0 c.in-Ok.field-0.1 c.stop-stop.result c.tally-tally.result
+          c.write_stream_end.result _ _ _ _ by
+          c.in-Ok.ensures.told c.write_stream_end.ensures.written;
       stopped = stream_left cuts stays frames _ _ _ c.new-speaker.result c.say_reader-said.new.speaker
-          c.in-Ok.field-0.0 c.in-Ok.field-0.1 c.stop-stop.result c.tally-tally.result c.end_stream.result _ _ _ _ _ by
-          c.in-Ok.ensures.told c.end_stream.ensures.stopped;
+          c.in-Ok.field-0.0 c.in-Ok.field-0.1 c.stop-stop.result c.tally-tally.result
+          c.write_stream_end.result _ _ _ _ _ by
+          c.in-Ok.ensures.told c.write_stream_end.ensures.stopped;
     }
 
 pub returns-in-Err-clause-stopped : goal.returns-in-Err-clause-stopped

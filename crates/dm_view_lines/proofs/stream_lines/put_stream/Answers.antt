@@ -44,8 +44,8 @@ loop-line-preserved c =
       held = said.held;
       so_far = so-next c.cuts.ensures c.args.task c.args.dictionary.now (lines c.args.input.now)
           (lines c.loop-line.line-iterator) (lines c.next.new.self) line (c.loop-line.number + 1)
-          c.loop-line.framer.octets c.put_line.new.framer.octets (string_bytes c.args.text.now)
-          (string_bytes c.loop-line.text) (string_bytes c.put_line.new.text) c.loop-line.reading.tally
+          c.loop-line.framer.octets c.put_stream_line.new.framer.octets (string_bytes c.args.text.now)
+          (string_bytes c.loop-line.text) (string_bytes c.put_stream_line.new.text) c.loop-line.reading.tally
           c.in_ok-read.read.tally c.in_ok-read.read.fault c.in_ok-read.stop c.in-Some.ensures.steps inv.so_far
           (record {
             bad = λ none. let r = said.bad none in (r.1, ap (λ v. v.tally) r.0, r.2, ap (λ f. f.octets) r.3);
@@ -60,8 +60,8 @@ returns-then-is_some c =
     let said = c.in_ok-read.ensures in
     so-stop c.cuts.ensures c.fault_stays.ensures c.args.task c.args.dictionary.now (lines c.args.input.now)
     (lines c.loop-line.line-iterator) (lines c.next.new.self) c.in-Some.line.now (c.loop-line.number + 1)
-    c.loop-line.framer.octets c.put_line.new.framer.octets (string_bytes c.args.text.now)
-    (string_bytes c.loop-line.text) (string_bytes c.put_line.new.text) c.loop-line.reading.tally
+    c.loop-line.framer.octets c.put_stream_line.new.framer.octets (string_bytes c.args.text.now)
+    (string_bytes c.loop-line.text) (string_bytes c.put_stream_line.new.text) c.loop-line.reading.tally
     c.in_ok-read.read.tally c.in_ok-read.read.fault c.in_ok-read.stop c.in-Some.ensures.steps inv.so_far
     (record {
       bad = λ none. let r = said.bad none in (r.1, ap (λ v. v.tally) r.0, r.2, ap (λ f. f.octets) r.3);

@@ -1,0 +1,22 @@
+use Rattle.std.proofs.Common.{◌≡◌, ◌++◌, ◌∷◌, [], append_assoc}
+use Rattle.json.specs.Token.{begin_object}
+use Rattle.json.specs.Tree.{members_tokens}
+use Rattle.dm_view_lines.specs.Json.{error_member, bad_members, checked_before}
+use Rattle.dm_view_lines.specs.Reasons.{refusal_sentence}
+use Rattle.dm_view_lines.proofs.json_refused.put_checked_refusal_object.Goals as goal
+
+pub returns : goal.returns
+returns g c =
+    let reason = error_member (refusal_sentence c.args.fault) in
+    let members = checked_before c.args.dictionary.now c.args.octets.now c.args.fault reason in
+    let opened : c.begin_object.new.self ≡ c.args.json.now ++ begin_object ∷ [] = c.in_ok-begin_object.ensures in
+    let fronted = c.in_ok-put_members.ensures (bad_members members) in
+    let bad : c.put_bad_if_checked.new.json ++ members_tokens members
+    ≡ c.put_members.new.json ++ members_tokens (bad_members members)
+    = c.in_ok-put_bad_if_checked.ensures members in
+    let before : c.put_json_front_checked.new.json ++ members_tokens reason ≡
+    c.put_bad_if_checked.new.json ++ members_tokens members
+    = c.in_ok-put_json_front_checked.ensures reason in
+    let ended : c.put_reason.new.json ≡ c.put_json_front_checked.new.json ++ members_tokens reason
+    = c.in_ok-put_reason.ensures in
+    rw (ended, before, bad, fronted, opened) (simp append_assoc)
