@@ -43,7 +43,7 @@ pub struct Asked {
 const TEXTS: [&str; 4] = ["time", "peer", "session", "command"];
 
 /// Whether an option is given that captures alone have.
-pub fn asks_of_capture(matches: &ArgMatches<'_>) -> bool {
+pub fn has_capture_option(matches: &ArgMatches<'_>) -> bool {
     TEXTS.iter().any(|name| matches.get_str(name).is_some())
         || matches.get_many::<u16>("port").is_some()
         || matches.get_flag("any")
@@ -72,7 +72,7 @@ fn ports_of(alloc: Global, matches: &ArgMatches<'_>) -> Result<Vec<u16>> {
 }
 
 /// The text of an option.
-fn text_of(alloc: Global, matches: &ArgMatches<'_>, name: &str) -> Result<Option<String>> {
+fn option_text(alloc: Global, matches: &ArgMatches<'_>, name: &str) -> Result<Option<String>> {
     match matches.get_str(name) {
         Some(text) => Ok(Some(String::from_str(alloc, text).context("dmview")?)),
         None => Ok(None),
@@ -83,9 +83,9 @@ fn text_of(alloc: Global, matches: &ArgMatches<'_>, name: &str) -> Result<Option
 pub fn asked_of(alloc: Global, matches: &ArgMatches<'_>) -> Result<Asked> {
     Ok(Asked {
         ports: ports_of(alloc, matches)?,
-        host: text_of(alloc, matches, "peer")?,
-        session: text_of(alloc, matches, "session")?,
-        command: text_of(alloc, matches, "command")?,
+        host: option_text(alloc, matches, "peer")?,
+        session: option_text(alloc, matches, "session")?,
+        command: option_text(alloc, matches, "command")?,
         is_any: matches.get_flag("any"),
         is_bad: matches.get_flag("bad"),
         is_relative: matches.get_str("time") == Some("relative"),
@@ -101,7 +101,7 @@ fn octets_of(text: &Option<String>) -> Option<&[u8]> {
 }
 
 /// A command by its code, or else by its name.
-fn wanted_of(word: &Option<String>) -> Option<Wanted<'_>> {
+fn wanted_command(word: &Option<String>) -> Option<Wanted<'_>> {
     match word {
         Some(word) => match word.parse::<u32>() {
             Ok(code) => Some(Wanted::Code(code)),
@@ -128,7 +128,7 @@ pub fn looks_of(asked: &Asked) -> Looks<'_> {
         filter: Filter {
             host: octets_of(&asked.host),
             session: octets_of(&asked.session),
-            command: wanted_of(&asked.command),
+            command: wanted_command(&asked.command),
             bad: asked.is_bad,
         },
     }

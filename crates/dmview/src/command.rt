@@ -9,7 +9,7 @@ const COLOURS: [&str; 3] = ["auto", "always", "never"];
 const TIMES: [&str; 2] = ["utc", "relative"];
 
 /// The options of a capture, for a word of the command line.
-fn with_capture<'a>(alloc: Global, word: Command<'a>) -> Result<Command<'a>, AllocError> {
+fn with_capture_options<'a>(alloc: Global, word: Command<'a>) -> Result<Command<'a>, AllocError> {
     let hex = Arg::new(alloc, "hex")
         .long("hex")
         .help("the files are lines of hexadecimal, whatever they begin with")
@@ -38,7 +38,7 @@ fn with_capture<'a>(alloc: Global, word: Command<'a>) -> Result<Command<'a>, All
 }
 
 /// The options that say which messages of a capture something is said of.
-fn with_filter<'a>(alloc: Global, word: Command<'a>) -> Result<Command<'a>, AllocError> {
+fn with_filter_options<'a>(alloc: Global, word: Command<'a>) -> Result<Command<'a>, AllocError> {
     let peer = Arg::new(alloc, "peer")
         .long("peer")
         .value_name("HOST")
@@ -62,7 +62,11 @@ fn with_filter<'a>(alloc: Global, word: Command<'a>) -> Result<Command<'a>, Allo
 }
 
 /// A word with its options and files.
-fn word<'a>(alloc: Global, name: &'a str, about: &'a str) -> Result<Command<'a>, AllocError> {
+fn new_subcommand<'a>(
+    alloc: Global,
+    name: &'a str,
+    about: &'a str,
+) -> Result<Command<'a>, AllocError> {
     let dict = Arg::new(alloc, "dict")
         .long("dict")
         .value_name("FILE")
@@ -96,8 +100,8 @@ fn word<'a>(alloc: Global, name: &'a str, about: &'a str) -> Result<Command<'a>,
         .arg(stream)?
         .arg(json)?
         .arg(file)?;
-    let word = with_capture(alloc, word)?;
-    with_filter(alloc, word)
+    let word = with_capture_options(alloc, word)?;
+    with_filter_options(alloc, word)
 }
 
 /// The whole command line.
@@ -106,6 +110,6 @@ pub fn command_line<'a>(alloc: Global) -> Result<Command<'a>, AllocError> {
         .about("What Diameter messages say, in names and values, and all that is wrong with them")
         .version("0.1")
         .subcommand_required(true)
-        .subcommand(word(alloc, "show", "prints each message by name")?)?
-        .subcommand(word(alloc, "check", "prints all that is wrong with each message")?)
+        .subcommand(new_subcommand(alloc, "show", "prints each message by name")?)?
+        .subcommand(new_subcommand(alloc, "check", "prints all that is wrong with each message")?)
 }

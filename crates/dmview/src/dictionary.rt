@@ -16,7 +16,7 @@ use std::{fs, io, str};
 const VERSION: &[u8] = b"@ 2 ";
 
 /// The base dictionary and behind it what the text defines; or the first fault of the text, or want of memory.
-fn dictionary_over(alloc: Global, text: &[u8]) -> Result<Dictionary, DictFault>
+fn dictionary_over_base(alloc: Global, text: &[u8]) -> Result<Dictionary, DictFault>
     ensures defines { IfOk result (λ dictionary. Defines text.now base_definitions dictionary) }
     ensures fault { IfErr result (λ fault. (fault ≡ faults_of.NoMemory)
         ⊎ IsFirstFault text.now base_definitions fault) }
@@ -28,7 +28,11 @@ fn dictionary_over(alloc: Global, text: &[u8]) -> Result<Dictionary, DictFault>
 }
 
 /// The dictionary of the files of these names: the base one where none is named.
-pub fn dictionary_of(rt: &HostRuntime, names: &[&str], files: Vec<File>) -> Result<Dictionary> {
+pub fn dictionary_of_files(
+    rt: &HostRuntime,
+    names: &[&str],
+    files: Vec<File>,
+) -> Result<Dictionary> {
     if names.is_empty() {
         drop(files);
         return Dictionary::base(rt.alloc()).context("dmview: dictionary");
@@ -37,9 +41,9 @@ pub fn dictionary_of(rt: &HostRuntime, names: &[&str], files: Vec<File>) -> Resu
     let mut ends = Vec::new(rt.alloc());
     let done = read_texts(names, files, &mut text, &mut ends);
     done?;
-    match dictionary_over(rt.alloc(), text.as_slice()) {
+    match dictionary_over_base(rt.alloc(), text.as_slice()) {
         Ok(dictionary) => Ok(dictionary),
-        Err(fault) => Err(told(rt, names, text.as_slice(), ends.as_slice(), fault)),
+        Err(fault) => Err(dictionary_error(rt, names, text.as_slice(), ends.as_slice(), fault)),
     }
 }
 
@@ -63,7 +67,7 @@ fn read_texts(
 }
 
 /// The line of a fault, counted through all files, and what is wrong with it.
-fn words_of(fault: DictFault) -> (usize, &'static str)
+fn line_and_words(fault: DictFault) -> (usize, &'static str)
     ensures syntax { (line : ℕ) → fault ≡ faults_of.Syntax line → result.0 ≡ line }
     ensures range { (line : ℕ) → fault ≡ faults_of.Range line → result.0 ≡ line }
     ensures duplicate { (line : ℕ) → fault ≡ faults_of.Duplicate line → result.0 ≡ line }
@@ -82,21 +86,27 @@ fn words_of(fault: DictFault) -> (usize, &'static str)
 
 /// What is said of a fault: the file and the line there, what is wrong, and the file beside it that has a name of that
 /// line which is nowhere defined.
-fn told(rt: &HostRuntime, names: &[&str], text: &[u8], ends: &[usize], fault: DictFault) -> Error {
-    let (line, words) = words_of(fault);
-    let Some((name, number)) = place_of(names, text, ends, line) else {
+fn dictionary_error(
+    rt: &HostRuntime,
+    names: &[&str],
+    text: &[u8],
+    ends: &[usize],
+    fault: DictFault,
+) -> Error {
+    let (line, words) = line_and_words(fault);
+    let Some((name, number)) = file_and_line(names, text, ends, line) else {
         return Error::msg(format_args!("dmview: dictionary: {words}"));
     };
     if let DictFault::UnknownName(_) = fault {
         if let Some(found) = Lines::new(text).nth(line.saturating_sub(1)) {
-            return told_name(rt, name, number, text, found);
+            return unknown_name_error(rt, name, number, text, found);
         }
     }
     Error::msg(format_args!("dmview: {name}: line {number}: {words}"))
 }
 
 /// The file of a line that is counted through all files, and its number there.
-fn place_of<'a>(
+fn file_and_line<'a>(
     names: &[&'a str],
     text: &[u8],
     ends: &[usize],
@@ -125,14 +135,20 @@ fn count_lines(text: &[u8]) -> usize {
 }
 
 /// What is said of a name in this line of a file that the text doesn't define.
-fn told_name(rt: &HostRuntime, name: &str, number: usize, text: &[u8], line: &[u8]) -> Error {
+fn unknown_name_error(
+    rt: &HostRuntime,
+    name: &str,
+    number: usize,
+    text: &[u8],
+    line: &[u8],
+) -> Error {
     let folder = match name.rsplit_once('/') {
         Some((folder, _)) => folder,
         None => ".",
     };
     for word in Words::new(line) {
         if is_name(word) && !defines(text, word) {
-            if let Ok(Some(error)) = told_beside(rt, name, number, folder, word) {
+            if let Ok(Some(error)) = error_with_defining_file(rt, name, number, folder, word) {
                 return error;
             }
         }
@@ -141,7 +157,7 @@ fn told_name(rt: &HostRuntime, name: &str, number: usize, text: &[u8], line: &[u
 }
 
 /// What is said of a name that a file in this folder defines, where one does.
-fn told_beside(
+fn error_with_defining_file(
     rt: &HostRuntime,
     name: &str,
     number: usize,

@@ -47,12 +47,12 @@ pub fn open_files(rt: &HostRuntime, names: &[&str]) -> Result<VecDeque<File>> {
 pub type Opened = Chain<VecDeque<u8>, File>;
 
 /// A file, with these octets of its front.
-pub fn behind_front(front: VecDeque<u8>, file: File) -> Opened {
+pub fn file_with_front(front: VecDeque<u8>, file: File) -> Opened {
     front.chain(file)
 }
 
 /// The lines of all files, one after the other; of the first one these octets were read.
-pub fn lines_of(
+pub fn joined_files(
     alloc: Global,
     front: VecDeque<u8>,
     files: VecDeque<File>,
@@ -61,7 +61,7 @@ pub fn lines_of(
     let mut front = front;
     for file in files {
         let read = mem::replace(&mut front, VecDeque::new(alloc));
-        inputs.push(behind_front(read, file)).context("dmview")?;
+        inputs.push(file_with_front(read, file)).context("dmview")?;
     }
     drop(front);
     Ok(inputs)

@@ -13,10 +13,10 @@ mod dictionary;
 mod input;
 mod written;
 
-use crate::capture::{asked_of, asks_of_capture, looks_of};
+use crate::capture::{asked_of, has_capture_option, looks_of};
 use crate::command::command_line;
-use crate::dictionary::dictionary_of;
-use crate::input::{behind_front, first_is_capture, lines_of, open_files, open_texts};
+use crate::dictionary::dictionary_of_files;
+use crate::input::{file_with_front, first_is_capture, joined_files, open_files, open_texts};
 use crate::written::write_said;
 use anyhow::{Context, Error, Result};
 use clap::{ArgMatches, error};
@@ -36,7 +36,7 @@ const MISPLACED: &str =
     "dmview: the input is no capture: --port, --any, --time, --peer, --session, --command and --bad are of captures";
 
 /// Why a run stopped, in words, and where it was read. Nothing is said where nobody reads on.
-fn told(fault: RunFault, name: &str) -> Result<u8> {
+fn status_or_error(fault: RunFault, name: &str) -> Result<u8> {
     match fault {
         RunFault::Write(error) => {
             if error.kind() == ErrorKind::BrokenPipe {
@@ -50,7 +50,7 @@ fn told(fault: RunFault, name: &str) -> Result<u8> {
 }
 
 /// Writes what is said of the inputs as they are read, and tells the status. They have these names.
-fn say<R: Read + Drop>(
+fn say_inputs<R: Read + Drop>(
     rt: &HostRuntime,
     dictionary: &Dictionary,
     style: Style,
@@ -72,12 +72,12 @@ fn say<R: Read + Drop>(
     drop(reader);
     match said {
         Ok(good) => Ok(status_of(good)),
-        Err(fault) => told(fault, names.get(at).copied().unwrap_or("standard input")),
+        Err(fault) => status_or_error(fault, names.get(at).copied().unwrap_or("standard input")),
     }
 }
 
 /// Writes what is said of standard input, and tells the status.
-fn say_standard(
+fn say_standard_input(
     rt: &HostRuntime,
     dictionary: &Dictionary,
     style: Style,
@@ -85,11 +85,11 @@ fn say_standard(
 ) -> Result<u8> {
     let mut inputs = Inputs::new(rt.alloc());
     inputs.push(rt.stdin()).context("dmview")?;
-    say(rt, dictionary, style, is_stream, inputs, &[])
+    say_inputs(rt, dictionary, style, is_stream, inputs, &[])
 }
 
 /// Writes what is said of a capture, as it is read, and tells the status.
-fn say_packets<R: Read + Drop>(
+fn say_one_capture<R: Read + Drop>(
     rt: &HostRuntime,
     dictionary: &Dictionary,
     style: Style,
@@ -112,7 +112,7 @@ fn say_packets<R: Read + Drop>(
     drop(reader);
     match said {
         Ok(good) => Ok(status_of(good)),
-        Err(fault) => told(fault, name),
+        Err(fault) => status_or_error(fault, name),
     }
 }
 
@@ -130,8 +130,8 @@ fn say_captures(
     for name in names {
         if let Some(file) = files.pop_front() {
             let read = mem::replace(&mut front, VecDeque::new(rt.alloc()));
-            let input = behind_front(read, file);
-            status = status.max(say_packets(rt, dictionary, style, looks, input, name)?);
+            let input = file_with_front(read, file);
+            status = status.max(say_one_capture(rt, dictionary, style, looks, input, name)?);
         }
         if status > 1 {
             break;
@@ -159,13 +159,15 @@ fn say_input(
     names: &[&str],
 ) -> Result<u8> {
     match (kind, names.is_empty()) {
-        (InputKind::Lines { is_stream }, true) => say_standard(rt, dictionary, style, is_stream),
+        (InputKind::Lines { is_stream }, true) => say_standard_input(
+            rt, dictionary, style, is_stream,
+        ),
         (InputKind::Lines { is_stream }, false) => {
-            let inputs = lines_of(rt.alloc(), front, files)?;
-            say(rt, dictionary, style, is_stream, inputs, names)
+            let inputs = joined_files(rt.alloc(), front, files)?;
+            say_inputs(rt, dictionary, style, is_stream, inputs, names)
         }
         (InputKind::Captures(looks), true) => {
-            say_packets(rt, dictionary, style, looks, rt.stdin(), "standard input")
+            say_one_capture(rt, dictionary, style, looks, rt.stdin(), "standard input")
         }
         (InputKind::Captures(looks), false) => {
             say_captures(rt, dictionary, style, looks, front, files, names)
@@ -213,13 +215,13 @@ fn task_of(is_check: bool, is_json: bool) -> Task
 }
 
 /// Says that the input is no capture, though an option of captures is there, and tells the status.
-fn misplaced(rt: &HostRuntime) -> Result<u8> {
+fn refuse_capture_options(rt: &HostRuntime) -> Result<u8> {
     writeln!(rt.stderr(), "{MISPLACED}").context("dmview")?;
     Ok(2)
 }
 
 /// Opens the files, reads the dictionaries, and writes what is said of the input. It tells the status.
-fn run(rt: &HostRuntime, is_check: bool, matches: &ArgMatches<'_>) -> Result<u8> {
+fn run_subcommand(rt: &HostRuntime, is_check: bool, matches: &ArgMatches<'_>) -> Result<u8> {
     let style = Style {
         task: task_of(is_check, matches.get_flag("json")),
         coloured: is_coloured(rt, matches.get_str("color")),
@@ -231,10 +233,10 @@ fn run(rt: &HostRuntime, is_check: bool, matches: &ArgMatches<'_>) -> Result<u8>
     let asked = asked_of(rt.alloc(), matches)?;
     let mut front = VecDeque::new(rt.alloc());
     let is_capture = are_captures(rt, matches, &mut files, &mut front, names)?;
-    if !is_capture && asks_of_capture(matches) {
-        return misplaced(rt);
+    if !is_capture && has_capture_option(matches) {
+        return refuse_capture_options(rt);
     }
-    let dictionary = dictionary_of(rt, texts_names, texts)?;
+    let dictionary = dictionary_of_files(rt, texts_names, texts)?;
     let kind = if is_capture {
         InputKind::Captures(looks_of(&asked))
     } else {
@@ -249,7 +251,7 @@ fn run(rt: &HostRuntime, is_check: bool, matches: &ArgMatches<'_>) -> Result<u8>
 }
 
 /// Says why the words are refused, or what they ask for, and tells the status.
-fn refused(rt: &HostRuntime, error: &clap::Error) -> Result<u8> {
+fn print_clap_error(rt: &HostRuntime, error: &clap::Error) -> Result<u8> {
     error.print(rt).context("dmview")?;
     if error.kind() == error::ErrorKind::OutOfMemory {
         return Ok(3);
@@ -274,11 +276,11 @@ fn run_words(rt: &HostRuntime) -> Result<u8> {
     let line = command_line(rt.alloc()).context("dmview")?;
     let matches = match line.try_get_matches_from(words.as_slice()) {
         Ok(matches) => matches,
-        Err(error) => return refused(rt, &error),
+        Err(error) => return print_clap_error(rt, &error),
     };
     match matches.subcommand() {
-        Some(("check", inner)) => run(rt, true, inner),
-        Some((_, inner)) => run(rt, false, inner),
+        Some(("check", inner)) => run_subcommand(rt, true, inner),
+        Some((_, inner)) => run_subcommand(rt, false, inner),
         None => Ok(status_of(false)),
     }
 }
