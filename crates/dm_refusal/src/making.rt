@@ -29,7 +29,7 @@ fn makes_row<M: Making>(alloc: Global, making: &M) -> bool {
 }
 
 /// How the call ends when its nth request is refused.
-fn end_of<M: Making>(alloc: Global, making: &M, nth: u32) -> End {
+fn end_of_refused_call<M: Making>(alloc: Global, making: &M, nth: u32) -> End {
     refuse(alloc, nth);
     let first = making.call(alloc);
     let refused = was_refused(alloc);
@@ -48,7 +48,7 @@ fn end_of<M: Making>(alloc: Global, making: &M, nth: u32) -> End {
 /// As [`last`](crate::last), of a call that makes something.
 pub fn last_made<M: Making>(alloc: Global, making: &M) -> (u32, End) {
     for nth in 1..MOST {
-        let end = end_of(alloc, making, nth);
+        let end = end_of_refused_call(alloc, making, nth);
         if end != End::Again {
             return (nth, end);
         }

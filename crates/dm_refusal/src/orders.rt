@@ -20,36 +20,36 @@ const ASKED: usize = ORDER | 1 << 59;
 /// Whether a request for more than so many octets was made since the last order.
 const LARGER: usize = ORDER | 1 << 58;
 
-fn is_given(alloc: Global, size: usize) -> bool {
+fn can_allocate(alloc: Global, size: usize) -> bool {
     let block: Result<Vec<u8>, AllocError> = Vec::with_capacity(alloc, size);
     block.is_ok()
 }
 
 /// The nth request from here on is refused; at 0 none is.
 pub fn refuse(alloc: Global, nth: u32) {
-    is_given(alloc, ORDER | (nth as usize));
+    can_allocate(alloc, ORDER | (nth as usize));
 }
 
 /// Each request from here on is refused.
 pub fn refuse_each(alloc: Global) {
-    is_given(alloc, EACH | 1);
+    can_allocate(alloc, EACH | 1);
 }
 
 /// Whether a request was refused since the last order. None is from here on.
 pub fn was_refused(alloc: Global) -> bool {
-    let refused = is_given(alloc, REFUSED);
+    let refused = can_allocate(alloc, REFUSED);
     refuse(alloc, 0);
     refused
 }
 
 /// Whether a request was made since the last order, refused or not. None is refused from here on.
 pub fn was_asked(alloc: Global) -> bool {
-    let asked = is_given(alloc, ASKED);
+    let asked = can_allocate(alloc, ASKED);
     refuse(alloc, 0);
     asked
 }
 
 /// Whether more than so many octets were asked for at once since the last order.
 pub fn was_larger(alloc: Global, octets: u32) -> bool {
-    is_given(alloc, LARGER | (octets as usize))
+    can_allocate(alloc, LARGER | (octets as usize))
 }
