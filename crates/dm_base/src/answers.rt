@@ -13,8 +13,8 @@ use crate::codes::RESULT_CODE;
 use crate::headers::header_of_answer;
 use crate::laws::built_is_spelled;
 use crate::parts::{
-    answer_state, avp_count_bound, put_capabilities, put_failed_avp, put_origin,
-    put_origin_state_id, unsigned32_avp,
+    avp_count_bound, push_capabilities, push_failed_avp, push_origin, push_origin_state_id,
+    state_id_in_answer, unsigned32_avp,
 };
 use dm_dict::NoMemory;
 use dm_wire::{Avp, AvpList, Header, Message};
@@ -40,7 +40,7 @@ pub fn cea(
     let header = header_of_answer(false, to);
     let mut avps = Vec::with_capacity(alloc, avp_count_bound(node))?;
     avps.push(unsigned32_avp(alloc, RESULT_CODE, code)?)?;
-    put_capabilities(alloc, &mut avps, node, failed)?;
+    push_capabilities(alloc, &mut avps, node, failed)?;
     Ok(Message {
         header,
         avps: AvpList::from_vec(avps),
@@ -61,9 +61,9 @@ fn dwa_or_dpa(
     let header = header_of_answer(false, to);
     let mut avps = Vec::with_capacity(alloc, 5)?;
     avps.push(unsigned32_avp(alloc, RESULT_CODE, code)?)?;
-    put_origin(alloc, &mut avps, node)?;
-    put_failed_avp(alloc, &mut avps, failed)?;
-    put_origin_state_id(alloc, &mut avps, answer_state(node, to.command))?;
+    push_origin(alloc, &mut avps, node)?;
+    push_failed_avp(alloc, &mut avps, failed)?;
+    push_origin_state_id(alloc, &mut avps, state_id_in_answer(node, to.command))?;
     Ok(Message {
         header,
         avps: AvpList::from_vec(avps),
@@ -117,7 +117,7 @@ fn error_bit_answer(alloc: Global, node: &Node, to: &Header, code: u32) -> Resul
 {
     let header = header_of_answer(true, to);
     let mut avps = Vec::with_capacity(alloc, 3)?;
-    put_origin(alloc, &mut avps, node)?;
+    push_origin(alloc, &mut avps, node)?;
     avps.push(unsigned32_avp(alloc, RESULT_CODE, code)?)?;
     Ok(Message {
         header,

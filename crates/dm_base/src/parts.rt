@@ -82,7 +82,7 @@ fn host_ip_address_avp(alloc: Global, ip: &Ip) -> Result<Avp, NoMemory>
 }
 
 /// A Host-IP-Address for each address, appended.
-fn put_addresses(alloc: Global, avps: &mut Vec<Avp>, addresses: &[Ip]) -> Result<(), NoMemory>
+fn push_addresses(alloc: Global, avps: &mut Vec<Avp>, addresses: &[Ip]) -> Result<(), NoMemory>
     ensures { OnOk result (avps.new.items ≡ avps.old.items ++ map address_avp addresses.now) }
 {
     for ip in addresses {
@@ -92,7 +92,12 @@ fn put_addresses(alloc: Global, avps: &mut Vec<Avp>, addresses: &[Ip]) -> Result
 }
 
 /// An AVP of this code for each number, appended.
-fn put_numbers(alloc: Global, avps: &mut Vec<Avp>, code: u32, ids: &[u32]) -> Result<(), NoMemory>
+fn push_number_avps(
+    alloc: Global,
+    avps: &mut Vec<Avp>,
+    code: u32,
+    ids: &[u32],
+) -> Result<(), NoMemory>
     ensures { OnOk result (avps.new.items ≡ avps.old.items ++ map (number_avp code) ids.now) }
 {
     for id in ids {
@@ -102,7 +107,7 @@ fn put_numbers(alloc: Global, avps: &mut Vec<Avp>, code: u32, ids: &[u32]) -> Re
 }
 
 /// Origin-Host and Origin-Realm, appended.
-pub(crate) fn put_origin(alloc: Global, avps: &mut Vec<Avp>, node: &Node) -> Result<(), NoMemory>
+pub(crate) fn push_origin(alloc: Global, avps: &mut Vec<Avp>, node: &Node) -> Result<(), NoMemory>
     ensures { OnOk result (avps.new.items ≡ avps.old.items ++ origin node.now []) }
 {
     avps.push(avp_of_copied_octets(alloc, ORIGIN_HOST, node.host.as_slice())?)?;
@@ -131,7 +136,7 @@ fn fits_failed_avp(avp: &Avp) -> bool
 }
 
 /// A Failed-AVP that holds the failed AVP, appended, where there is one that isn't too long.
-pub(crate) fn put_failed_avp(
+pub(crate) fn push_failed_avp(
     alloc: Global,
     avps: &mut Vec<Avp>,
     failed: Option<&Avp>,
@@ -147,7 +152,7 @@ pub(crate) fn put_failed_avp(
 }
 
 /// Product-Name, which has no M bit (RFC 6733, 5.3.7), appended.
-fn put_product(alloc: Global, avps: &mut Vec<Avp>, node: &Node) -> Result<(), NoMemory>
+fn push_product_name(alloc: Global, avps: &mut Vec<Avp>, node: &Node) -> Result<(), NoMemory>
     ensures { OnOk result (avps.new.items ≡ avps.old.items ++ product_avp node.now.product ∷ []) }
 {
     let mut avp = avp_of_copied_octets(alloc, PRODUCT_NAME, node.product.as_str().as_bytes())?;
@@ -157,7 +162,7 @@ fn put_product(alloc: Global, avps: &mut Vec<Avp>, node: &Node) -> Result<(), No
 }
 
 /// Origin-State-Id, appended, where there is a number for it (RFC 6733, 8.16).
-pub(crate) fn put_origin_state_id(
+pub(crate) fn push_origin_state_id(
     alloc: Global,
     avps: &mut Vec<Avp>,
     state: Option<u32>,
@@ -171,7 +176,11 @@ pub(crate) fn put_origin_state_id(
 }
 
 /// Firmware-Revision, which has no M bit (RFC 6733, 5.3.4), appended, where there is a number for it.
-fn put_firmware(alloc: Global, avps: &mut Vec<Avp>, firmware: Option<u32>) -> Result<(), NoMemory>
+fn push_firmware_revision(
+    alloc: Global,
+    avps: &mut Vec<Avp>,
+    firmware: Option<u32>,
+) -> Result<(), NoMemory>
     ensures { OnOk result (avps.new.items ≡ avps.old.items ++ firmware_avps firmware) }
 {
     if let Some(firmware) = firmware {
@@ -233,7 +242,7 @@ fn vendor_application_avp(alloc: Global, application: &VendorApplication) -> Res
 }
 
 /// A Vendor-Specific-Application-Id for each application of a vendor (RFC 6733, 6.11), appended.
-fn put_vendor_applications(
+fn push_vendor_applications(
     alloc: Global,
     avps: &mut Vec<Avp>,
     applications: &[VendorApplication],
@@ -268,7 +277,7 @@ pub(crate) fn avp_count_bound(node: &Node) -> usize {
 }
 
 /// The number of the node's state, where it has one.
-pub(crate) fn own_state(node: &Node) -> Option<u32>
+pub(crate) fn own_state_id(node: &Node) -> Option<u32>
     ensures { result ≡ own_state node.now.extras }
 {
     match &node.extras {
@@ -279,29 +288,29 @@ pub(crate) fn own_state(node: &Node) -> Option<u32>
 
 /// The number of the node's state, where it has one and an answer to this command tells it: a Device-Watchdog-Answer
 /// alone (RFC 6733, 5.5.2).
-pub(crate) fn answer_state(node: &Node, command: u32) -> Option<u32>
+pub(crate) fn state_id_in_answer(node: &Node, command: u32) -> Option<u32>
     ensures { result ≡ answer_state node.now command }
 {
     if command == DEVICE_WATCHDOG {
-        own_state(node)
+        own_state_id(node)
     } else {
         None
     }
 }
 
 /// Supported-Vendor-Ids, appended (RFC 6733, 5.3.6).
-fn put_supported_vendors(alloc: Global, avps: &mut Vec<Avp>, node: &Node) -> Result<(), NoMemory>
+fn push_supported_vendors(alloc: Global, avps: &mut Vec<Avp>, node: &Node) -> Result<(), NoMemory>
     ensures { OnOk result (avps.new.items
         ≡ avps.old.items ++ map (number_avp supported_vendor_id) (supported_vendors node.now.extras)) }
 {
     if let Some(extras) = &node.extras {
-        put_numbers(alloc, avps, SUPPORTED_VENDOR_ID, extras.vendors.as_slice())?;
+        push_number_avps(alloc, avps, SUPPORTED_VENDOR_ID, extras.vendors.as_slice())?;
     }
     Ok(())
 }
 
 /// Vendor-Specific-Application-Ids and Firmware-Revision, appended.
-fn put_specific_and_firmware(
+fn push_specific_and_firmware(
     alloc: Global,
     avps: &mut Vec<Avp>,
     node: &Node,
@@ -310,28 +319,28 @@ fn put_specific_and_firmware(
         ++ map specific_avp (vendor_applications node.now.extras) ++ firmware_avps (own_firmware node.now.extras)) }
 {
     if let Some(extras) = &node.extras {
-        put_vendor_applications(alloc, avps, extras.applications.as_slice())?;
-        put_firmware(alloc, avps, extras.firmware)?;
+        push_vendor_applications(alloc, avps, extras.applications.as_slice())?;
+        push_firmware_revision(alloc, avps, extras.firmware)?;
     }
     Ok(())
 }
 
 /// The applications and Firmware-Revision, appended.
-fn put_applications_and_firmware(
+fn push_applications_and_firmware(
     alloc: Global,
     avps: &mut Vec<Avp>,
     node: &Node,
 ) -> Result<(), NoMemory>
     ensures { OnOk result (avps.new.items ≡ avps.old.items ++ application_avps node.now) }
 {
-    put_numbers(alloc, avps, AUTH_APPLICATION_ID, node.auth.as_slice())?;
-    put_numbers(alloc, avps, ACCT_APPLICATION_ID, node.acct.as_slice())?;
-    put_specific_and_firmware(alloc, avps, node)?;
+    push_number_avps(alloc, avps, AUTH_APPLICATION_ID, node.auth.as_slice())?;
+    push_number_avps(alloc, avps, ACCT_APPLICATION_ID, node.acct.as_slice())?;
+    push_specific_and_firmware(alloc, avps, node)?;
     Ok(())
 }
 
 /// What stands behind Product-Name, appended.
-fn put_avps_after_product(
+fn push_avps_after_product(
     alloc: Global,
     avps: &mut Vec<Avp>,
     node: &Node,
@@ -341,15 +350,15 @@ fn put_avps_after_product(
         ++ (state_avps (own_state node.now.extras)
         ++ (failed_avps (option_copied failed.entry) ++ behind_failed node.now))) }
 {
-    put_origin_state_id(alloc, avps, own_state(node))?;
-    put_failed_avp(alloc, avps, failed)?;
-    put_supported_vendors(alloc, avps, node)?;
-    put_applications_and_firmware(alloc, avps, node)?;
+    push_origin_state_id(alloc, avps, own_state_id(node))?;
+    push_failed_avp(alloc, avps, failed)?;
+    push_supported_vendors(alloc, avps, node)?;
+    push_applications_and_firmware(alloc, avps, node)?;
     Ok(())
 }
 
 /// What a node says of itself in a capabilities exchange (RFC 6733, 5.3.1 and 5.3.2), appended.
-pub(crate) fn put_capabilities(
+pub(crate) fn push_capabilities(
     alloc: Global,
     avps: &mut Vec<Avp>,
     node: &Node,
@@ -358,10 +367,10 @@ pub(crate) fn put_capabilities(
     ensures { OnOk result (avps.new.items
         ≡ avps.old.items ++ capabilities node.now (failed_avps (option_copied failed.entry))) }
 {
-    put_origin(alloc, avps, node)?;
-    put_addresses(alloc, avps, node.addresses.as_slice())?;
+    push_origin(alloc, avps, node)?;
+    push_addresses(alloc, avps, node.addresses.as_slice())?;
     avps.push(unsigned32_avp(alloc, VENDOR_ID, node.vendor)?)?;
-    put_product(alloc, avps, node)?;
-    put_avps_after_product(alloc, avps, node, failed)?;
+    push_product_name(alloc, avps, node)?;
+    push_avps_after_product(alloc, avps, node, failed)?;
     Ok(())
 }

@@ -9,7 +9,8 @@ use crate::codes::{CAPABILITIES_EXCHANGE, DEVICE_WATCHDOG, DISCONNECT_CAUSE, DIS
 use crate::headers::header_of_request;
 use crate::laws::built_is_spelled;
 use crate::parts::{
-    avp_count_bound, own_state, put_capabilities, put_origin, put_origin_state_id, unsigned32_avp,
+    avp_count_bound, own_state_id, push_capabilities, push_origin, push_origin_state_id,
+    unsigned32_avp,
 };
 use crate::{Cause, Node};
 use dm_dict::NoMemory;
@@ -28,7 +29,7 @@ pub fn cer(alloc: Global, node: &Node, id: u32) -> Result<Message, NoMemory>
     built_is_spelled();
     let header = header_of_request(CAPABILITIES_EXCHANGE, id);
     let mut avps = Vec::with_capacity(alloc, avp_count_bound(node))?;
-    put_capabilities(alloc, &mut avps, node, None)?;
+    push_capabilities(alloc, &mut avps, node, None)?;
     Ok(Message {
         header,
         avps: AvpList::from_vec(avps),
@@ -46,8 +47,8 @@ pub fn dwr(alloc: Global, node: &Node, id: u32) -> Result<Message, NoMemory>
     built_is_spelled();
     let header = header_of_request(DEVICE_WATCHDOG, id);
     let mut avps = Vec::with_capacity(alloc, 3)?;
-    put_origin(alloc, &mut avps, node)?;
-    put_origin_state_id(alloc, &mut avps, own_state(node))?;
+    push_origin(alloc, &mut avps, node)?;
+    push_origin_state_id(alloc, &mut avps, own_state_id(node))?;
     Ok(Message {
         header,
         avps: AvpList::from_vec(avps),
@@ -65,7 +66,7 @@ pub fn dpr(alloc: Global, node: &Node, id: u32, cause: Cause) -> Result<Message,
     built_is_spelled();
     let header = header_of_request(DISCONNECT_PEER, id);
     let mut avps = Vec::with_capacity(alloc, 3)?;
-    put_origin(alloc, &mut avps, node)?;
+    push_origin(alloc, &mut avps, node)?;
     avps.push(unsigned32_avp(alloc, DISCONNECT_CAUSE, cause as u32)?)?;
     Ok(Message {
         header,

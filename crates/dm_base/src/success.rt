@@ -11,7 +11,7 @@ use crate::Node;
 use crate::codes::{ORIGIN_HOST, ORIGIN_REALM, ORIGIN_STATE_ID, RESULT_CODE, SUCCESS};
 use crate::headers::header_of_answer;
 use crate::laws::built_is_spelled;
-use crate::parts::{answer_state, borrowed_avp};
+use crate::parts::{borrowed_avp, state_id_in_answer};
 use dm_wire::codes::limits::HEADER_LEN;
 use dm_wire::laws::{avp_sized, canonical_spells};
 use dm_wire::{Header, WireFault, header_octets, push_avp};
@@ -42,7 +42,7 @@ fn origin_state_id_size(state: Option<u32>) -> usize
 }
 
 /// Origin-State-Id, appended, where there is a number for it.
-fn push_origin_state_id(out: &mut Vec<u8>, state: Option<u32>) -> Result<(), WireFault>
+fn push_state_id_octets(out: &mut Vec<u8>, state: Option<u32>) -> Result<(), WireFault>
     ensures put { OnOk result (out.new.items ≡ out.old.items ++ canonical_list (state_avps state)) }
     ensures memory { IfErr result (λ fault. fault ≡ WireFault.NoMemory) }
 {
@@ -80,7 +80,7 @@ fn push_answer_avps(out: &mut Vec<u8>, node: &Node, state: Option<u32>) -> Resul
     ensures memory { IfErr result (λ fault. fault ≡ WireFault.NoMemory) }
 {
     push_success_and_origin(out, node)?;
-    push_origin_state_id(out, state)?;
+    push_state_id_octets(out, state)?;
     Ok(())
 }
 
@@ -98,7 +98,7 @@ pub fn success_octets(alloc: Global, node: &Node, to: &Header) -> Result<Vec<u8>
 {
     built_is_spelled();
     canonical_spells();
-    let state = answer_state(node, to.command);
+    let state = state_id_in_answer(node, to.command);
     let size = HEADER_LEN as usize + answer_avps_size(node, state);
     let Some(header) = header_octets(header_of_answer(false, to), size as u32) else {
         return Err(WireFault::TooLong);

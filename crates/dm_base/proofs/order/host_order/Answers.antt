@@ -4,16 +4,19 @@ use Rattle.dm_base.proofs.Orders.{less_precedes, precedes_less, greater_follows,
 use Rattle.dm_base.proofs.order.host_order.Goals as goal
 
 pub returns-clause-less : goal.returns-clause-less
-returns-clause-less c =
-    (λ e. less_precedes _ _ (sym c.compare_ignoring_case.ensures ∙ e),
-    λ b. c.compare_ignoring_case.ensures ∙ precedes_less _ _ b)
+returns-clause-less c = (
+  λ e. less_precedes _ _ (sym c.compare_ignoring_case.ensures ∙ e),
+  λ b. c.compare_ignoring_case.ensures ∙ precedes_less _ _ b,
+)
 
 pub returns-clause-greater : goal.returns-clause-greater
-returns-clause-greater c =
-    (λ e. greater_follows _ _ (sym c.compare_ignoring_case.ensures ∙ e),
-    λ b. c.compare_ignoring_case.ensures ∙ follows_greater _ _ b)
+returns-clause-greater c = (
+  λ e. greater_follows _ _ (sym c.compare_ignoring_case.ensures ∙ e),
+  λ b. c.compare_ignoring_case.ensures ∙ follows_greater _ _ b,
+)
 
 pub returns-clause-equal : goal.returns-clause-equal
-returns-clause-equal c =
-    (λ e. equal_same _ _ (sym c.compare_ignoring_case.ensures ∙ e),
-    λ s. c.compare_ignoring_case.ensures ∙ same_equal _ _ s)
+returns-clause-equal c = (
+  λ e. equal_same _ _ (sym c.compare_ignoring_case.ensures ∙ e),
+  λ s. c.compare_ignoring_case.ensures ∙ same_equal _ _ s,
+)

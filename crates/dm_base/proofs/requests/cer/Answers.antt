@@ -2,8 +2,8 @@
 use Rattle.dm_base.proofs.Own.{kind_cer}
 use Rattle.dm_base.proofs.requests.cer.Goals as goal
 
-pub returns-in_err-put_capabilities-clause-kind : goal.returns-in_err-put_capabilities-clause-kind
-returns-in_err-put_capabilities-clause-kind c = kind_cer c.args.node.now c.args.id
+pub returns-in_err-push_capabilities-clause-kind : goal.returns-in_err-push_capabilities-clause-kind
+returns-in_err-push_capabilities-clause-kind c = kind_cer c.args.node.now c.args.id
 
 pub returns-clause-kind : goal.returns-clause-kind
 returns-clause-kind c = kind_cer c.args.node.now c.args.id
