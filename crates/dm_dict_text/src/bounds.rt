@@ -58,7 +58,7 @@ fn qualifier_max(min: u32, word: Option<Token<'_>>) -> Result<Option<u32>, DictF
 }
 
 /// The least and the greatest number of an entry.
-pub fn bounds(item: &EntryItem<'_>) -> Result<(u32, Option<u32>), DictFault>
+pub fn entry_bounds(item: &EntryItem<'_>) -> Result<(u32, Option<u32>), DictFault>
     ensures min { IfOk result (λ b. b.0 ≡ min_of (view_entry item.now).form (view_entry item.now).qualifier) }
     ensures max { IfOk result (λ b. b.1 ≡ max_of (view_entry item.now).qualifier) }
     ensures good { IfOk result (λ _. bound_faults (view_entry item.now) ≡ []) }

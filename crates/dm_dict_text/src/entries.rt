@@ -7,7 +7,7 @@ ghost use Rattle.dm_dict_text.specs.Meaning.{min_of, max_of};
 ghost use Rattle.dm_dict_text.specs.Faults.{StopsAtFirst, rule_entry_faults, with_entry, rule_faults};
 
 use crate::DictFault;
-use crate::bounds::bounds;
+use crate::bounds::entry_bounds;
 use dm_grammar::{EntryItem, Form};
 use dm_tables::{Entry, NoMemory, Rule};
 use dm_wire::Octets;
@@ -97,7 +97,7 @@ impl<'a> Entries<'a> {
         ensures new { IfOk result (λ _. is_repeated self.now.entries.items item.now.name.text.now ≡ false) }
         ensures fault { IfErr result (StopsAtFirst (rule_entry_faults self.now.entries.items (view_entry item.now))) }
     {
-        let range = bounds(item)?;
+        let range = entry_bounds(item)?;
         let word = item.name;
         if self.has_name(word.text) {
             return Err(DictFault::Duplicate(word.line));
@@ -171,7 +171,7 @@ impl<'a> Entries<'a> {
 }
 
 /// The entries of the items.
-fn entries_of(alloc: Global, items: &[EntryItem<'_>]) -> Result<Vec<Entry>, DictFault>
+fn entries_of_items(alloc: Global, items: &[EntryItem<'_>]) -> Result<Vec<Entry>, DictFault>
     ensures value { IfOk result (λ entries. entries.items ≡ fold with_entry [] (map view_entry items.now)) }
     ensures good { IfOk result (λ _. rule_faults (map view_entry items.now) ≡ []) }
     ensures fault { IfErr result (StopsAtFirst (rule_faults (map view_entry items.now))) }
@@ -188,6 +188,6 @@ pub fn rule(alloc: Global, items: &[EntryItem<'_>]) -> Result<Rule, DictFault>
     ensures good { IfOk result (λ _. rule_faults (map view_entry items.now) ≡ []) }
     ensures fault { IfErr result (StopsAtFirst (rule_faults (map view_entry items.now))) }
 {
-    let entries = entries_of(alloc, items)?;
+    let entries = entries_of_items(alloc, items)?;
     Ok(Rule::from_vec(entries))
 }

@@ -162,7 +162,7 @@ impl<'a> Listing<'a> {
 }
 
 /// The values of the items.
-fn values_of(alloc: Global, items: &[ValueItem<'_>]) -> Result<Vec<EnumValue>, DictFault>
+fn values_of_items(alloc: Global, items: &[ValueItem<'_>]) -> Result<Vec<EnumValue>, DictFault>
     ensures value { IfOk result (λ values. values.items ≡ fold with_value [] (map view_value items.now)) }
     ensures good { IfOk result (λ _. value_list_faults (map view_value items.now) ≡ []) }
     ensures fault { IfErr result (StopsAtFirst (value_list_faults (map view_value items.now))) }
@@ -182,6 +182,6 @@ pub fn value_list(alloc: Global, items: &[ValueItem<'_>]) -> Result<Values, Dict
     if items.is_empty() {
         return Ok(Values::empty(alloc));
     }
-    let values = values_of(alloc, items)?;
+    let values = values_of_items(alloc, items)?;
     Ok(Values::new(alloc, values)?)
 }

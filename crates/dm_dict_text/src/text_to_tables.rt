@@ -13,7 +13,7 @@ ghost use Rattle.dm_dict_text.specs.Outcome.{Defines, IsFirstFault, all_faults};
 
 use crate::DictFault;
 use crate::define::define_items;
-use crate::unknown::first_unknown;
+use crate::unknown::first_unknown_in_items;
 use dm_grammar::{Item, read_items};
 use dm_tables::{NameGuesses, NoMemory, Tables};
 use indexmap::IndexSet;
@@ -60,7 +60,7 @@ fn define_and_check_items<'a>(
 {
     define_items(alloc, tables, guesses, strays, items)?;
     let vendors = old.vendors.items.as_slice().len();
-    match first_unknown(tables, guesses, strays, vendors, items) {
+    match first_unknown_in_items(tables, guesses, strays, vendors, items) {
         Some(fault) => Err(fault),
         None => Ok(()),
     }

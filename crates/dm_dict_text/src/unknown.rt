@@ -17,7 +17,7 @@ use dm_tables::{NameGuesses, Tables, VendorDef, Vendors};
 use indexmap::IndexSet;
 
 /// The fault of an entry that names no AVP.
-fn unknown_entry(
+fn unknown_entry_fault(
     tables: &Tables,
     guesses: &NameGuesses,
     strays: &IndexSet<&[u8]>,
@@ -36,7 +36,7 @@ fn unknown_entry(
 }
 
 /// The first fault of entries that name no AVP.
-fn unknown_in_rule(
+fn first_unknown_in_rule(
     tables: &Tables,
     guesses: &NameGuesses,
     strays: &IndexSet<&[u8]>,
@@ -47,7 +47,7 @@ fn unknown_in_rule(
     ensures { result ≡ first_dict_fault (rule_unknown (making tables.now strays.now) (map view_entry rule.now)) }
 {
     for entry in rule {
-        let fault = unknown_entry(tables, guesses, strays, entry);
+        let fault = unknown_entry_fault(tables, guesses, strays, entry);
         if fault.is_some() {
             return fault;
         }
@@ -56,7 +56,7 @@ fn unknown_in_rule(
 }
 
 /// The fault of a name that none of the first vendors, so many, has.
-fn unknown_vendor(
+fn unknown_vendor_fault(
     vendors: &Vendors,
     first: usize,
     word: Option<VendorWord<'_>>,
@@ -74,7 +74,7 @@ fn unknown_vendor(
 }
 
 /// The fault of a name that no type has.
-fn unknown_kind(word: Token<'_>) -> Option<DictFault>
+fn unknown_type_fault(word: Token<'_>) -> Option<DictFault>
     ensures { result ≡ first_dict_fault (kind_unknown (view_word word.entry)) }
 {
     if type_named(word.text).is_some() {
@@ -86,7 +86,7 @@ fn unknown_kind(word: Token<'_>) -> Option<DictFault>
 
 /// The first fault of a type, a vendor or an entry of an item that nothing defines. The item stands behind the
 /// first vendors, so many.
-fn unknown_in_item(
+fn first_unknown_in_item(
     tables: &Tables,
     guesses: &NameGuesses,
     strays: &IndexSet<&[u8]>,
@@ -101,12 +101,21 @@ fn unknown_in_item(
     match item {
         Item::Vendor(_) => None,
         Item::Avp(avp) => {
-            unknown_kind(avp.kind).or(unknown_vendor(&tables.vendors, first, avp.vendor))
+            unknown_type_fault(avp.kind).or(unknown_vendor_fault(
+                &tables.vendors,
+                first,
+                avp.vendor,
+            ))
         }
-        Item::Group(group) => unknown_vendor(&tables.vendors, first, group.vendor).or(
-            unknown_in_rule(tables, guesses, strays, group.rule.as_slice()),
+        Item::Group(group) => unknown_vendor_fault(&tables.vendors, first, group.vendor).or(
+            first_unknown_in_rule(tables, guesses, strays, group.rule.as_slice()),
         ),
-        Item::Command(command) => unknown_in_rule(tables, guesses, strays, command.rule.as_slice()),
+        Item::Command(command) => first_unknown_in_rule(
+            tables,
+            guesses,
+            strays,
+            command.rule.as_slice(),
+        ),
     }
 }
 
@@ -123,7 +132,7 @@ fn vendor_count_after_item(vendors: &[VendorDef], before: usize, item: &Item<'_>
 
 /// The first fault of a type, a vendor or an entry that nothing defines. The items stand behind the first
 /// vendors, so many, and the others are theirs.
-pub fn first_unknown(
+pub fn first_unknown_in_items(
     tables: &Tables,
     guesses: &NameGuesses,
     strays: &IndexSet<&[u8]>,
@@ -140,7 +149,7 @@ pub fn first_unknown(
 {
     let mut seen = first;
     for item in items {
-        let fault = unknown_in_item(tables, guesses, strays, seen, item);
+        let fault = first_unknown_in_item(tables, guesses, strays, seen, item);
         if fault.is_some() {
             return fault;
         }

@@ -16,16 +16,16 @@ returns-in_err-define_items-clause-fault c =
     (item_stops (defined c.args.old.now) (map view_item c.args.items.now) (making c.args.tables.now c.args.strays.now)
     c.in_err-define_items.field-0.0 same c.in_err-define_items.ensures.fault)
 
-pub first_unknown-requires-clause-within : goal.first_unknown-requires-clause-within
-first_unknown-requires-clause-within c =
+pub first_unknown_in_items-requires-clause-within : goal.first_unknown_in_items-requires-clause-within
+first_unknown_in_items-requires-clause-within c =
     let same : making c.args.tables.now c.args.strays.now ≡ with_no_strays (defined c.args.old.now) =
     λ i. record { definitions = c.requires.copy i; strays = map (λ k. k.now) (c.requires.none i) } in
     within_here (defined c.args.old.now) (map view_item c.args.items.now) (making c.args.tables.now c.args.strays.now)
     (making c.define_items.new.tables c.define_items.new.strays) same c.in_ok-define_items.ensures.good
     c.in_ok-define_items.ensures.added _ (ap length c.as_slice-vendors.ensures.value)
 
-pub first_unknown-requires-clause-theirs : goal.first_unknown-requires-clause-theirs
-first_unknown-requires-clause-theirs c =
+pub first_unknown_in_items-requires-clause-theirs : goal.first_unknown_in_items-requires-clause-theirs
+first_unknown_in_items-requires-clause-theirs c =
     let same : making c.args.tables.now c.args.strays.now ≡ with_no_strays (defined c.args.old.now) =
     λ i. record { definitions = c.requires.copy i; strays = map (λ k. k.now) (c.requires.none i) } in
     theirs_here (defined c.args.old.now) (map view_item c.args.items.now) (making c.args.tables.now c.args.strays.now)

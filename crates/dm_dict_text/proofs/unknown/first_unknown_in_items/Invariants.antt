@@ -2,7 +2,7 @@ use Rattle.std.proofs.Common.{◌≡◌, ◌≤◌, map, drop, take, fold, lengt
 use Rattle.dm_grammar.specs.Views.{view_item}
 use Rattle.dm_dict_text.specs.Making.{making}
 use Rattle.dm_dict_text.specs.Faults.{first_dict_fault, vendors_with, items_unknown}
-use Rattle.dm_dict_text.proofs.unknown.first_unknown.Given as goal
+use Rattle.dm_dict_text.proofs.unknown.first_unknown_in_items.Given as goal
 
 abbrev pub invariant-loop-item : goal.invariant-loop-item
 invariant-loop-item l = record {
