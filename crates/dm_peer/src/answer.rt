@@ -18,7 +18,8 @@ ghost use Rattle.dm_peer.specs.Sent.{
 
 use crate::reading::HeardRef;
 use crate::sending::{
-    refusing_answer, send, send_cea, send_cer, send_dpr, send_dwr, send_success_answer,
+    push_send, push_send_cea, push_send_cer, push_send_dpr, push_send_dwr, push_send_success,
+    refusing_answer,
 };
 use crate::{Action, Actions, Event, Peer};
 use dm_base::{Cause, Node};
@@ -66,7 +67,7 @@ fn fault_of_heard<'a>(heard: Option<&HeardRef<'a>>) -> Judged<'a>
 
 /// The answer that refuses what was heard is to be sent.
 #[inline(never)]
-fn send_refusal(
+fn push_send_refusal(
     alloc: Global,
     conn: Conn,
     node: &Node,
@@ -81,14 +82,14 @@ fn send_refusal(
     match fault_of_heard(heard).verdict(alloc)? {
         Verdict::Bad { code, failed } => {
             let message = refusing_answer(alloc, node, &to, code, failed.as_ref())?;
-            send(alloc, conn, message, actions)
+            push_send(alloc, conn, message, actions)
         }
         Verdict::Good => unreachable!(),
     }
 }
 
 /// The CER that a CEA answers: the one that waits, else the one just heard.
-fn cer_answered(waiting: Option<Header>, heard: Option<&HeardRef<'_>>) -> Header
+fn answered_cer_header(waiting: Option<Header>, heard: Option<&HeardRef<'_>>) -> Header
     ensures { result ≡ cer_answered waiting (heard_by heard.entry) }
 {
     match waiting {
@@ -120,7 +121,7 @@ fn stop_cause(event: Event<'_>) -> Cause
 
 /// Appends what a command asks for; or want of memory, which only what is sent or handed up takes.
 #[inline(always)]
-fn put_action(
+fn push_action(
     alloc: Global,
     peer: &Peer,
     event: Event<'_>,
@@ -140,17 +141,24 @@ fn put_action(
     match command {
         Command::Connect(conn) => actions.push(Action::Connect(conn)),
         Command::Close(conn) => actions.push(Action::Close(conn)),
-        Command::SendCer(conn) => send_cer(alloc, conn, node, next, actions)?,
-        Command::SendDwr(conn) => send_dwr(alloc, conn, node, next, actions)?,
-        Command::SendDpr(conn) => send_dpr(alloc, conn, node, next, stop_cause(event), actions)?,
+        Command::SendCer(conn) => push_send_cer(alloc, conn, node, next, actions)?,
+        Command::SendDwr(conn) => push_send_dwr(alloc, conn, node, next, actions)?,
+        Command::SendDpr(conn) => push_send_dpr(
+            alloc,
+            conn,
+            node,
+            next,
+            stop_cause(event),
+            actions,
+        )?,
         Command::SendCea(conn) => {
-            let to = cer_answered(standing.waiting, heard);
-            send_cea(alloc, conn, node, &to, actions)?
+            let to = answered_cer_header(standing.waiting, heard);
+            push_send_cea(alloc, conn, node, &to, actions)?
         }
         Command::SendDwa(conn) | Command::SendDpa(conn) => {
-            send_success_answer(alloc, conn, node, &header_heard_or_zeros(heard), actions)?
+            push_send_success(alloc, conn, node, &header_heard_or_zeros(heard), actions)?
         }
-        Command::SendRefusal(conn) => send_refusal(alloc, conn, node, heard, actions)?,
+        Command::SendRefusal(conn) => push_send_refusal(alloc, conn, node, heard, actions)?,
         Command::SendSubmit(conn) => actions.push(Action::Send(
             conn,
             copied_event_octets(alloc, event)?,
@@ -161,7 +169,7 @@ fn put_action(
 }
 
 /// Appends what the commands ask for, in order; or want of memory, which only what is sent or handed up takes.
-pub(crate) fn put_actions(
+pub(crate) fn push_actions(
     alloc: Global,
     peer: &Peer,
     event: Event<'_>,
@@ -177,7 +185,7 @@ pub(crate) fn put_actions(
 {
     let mut left = commands;
     while let [command, rest @ ..] = left {
-        put_action(alloc, peer, event, heard, *command, actions)?;
+        push_action(alloc, peer, event, heard, *command, actions)?;
         left = rest;
     }
     Ok(())

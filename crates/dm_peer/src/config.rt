@@ -160,7 +160,7 @@ impl Config {
         })
     }
 
-    /// The same for a host that can be its peer, or want of memory.
+    /// A copy whose peer is this host, which can be its peer; or want of memory.
     fn copied_for_host(&self, alloc: Global, host: &[u8]) -> Result<Config, AllocError>
         requires name { is_name host.now ≡ true }
         requires other { is_same_host self.now.node.host host.now ≡ false }

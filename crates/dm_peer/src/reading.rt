@@ -130,7 +130,8 @@ fn is_other_sender(config: &Config, message: &MessageRef<'_>) -> bool
     config.compares && !is_same_host(sender_host(message), config.peer.as_slice())
 }
 
-/// The word of a CEA of this Result-Code.
+/// The word of a CEA of this Result-Code: that of one that fails its check where hosts are compared and another host
+/// sent it.
 #[inline(never)]
 fn word_of_cea(config: &Config, message: &MessageRef<'_>, code: u32) -> Word
     ensures { (l : List Avp) → SpellsList l message.now.rest.now

@@ -19,7 +19,7 @@ use dm_wire::{Avp, Header, Message, Octets};
 use std::alloc::Global;
 
 /// The message is to be sent: the action is appended. Or want of memory.
-pub(crate) fn send(
+pub(crate) fn push_send(
     alloc: Global,
     conn: Conn,
     message: Message,
@@ -35,7 +35,7 @@ pub(crate) fn send(
 
 /// A CER with the next number is to be sent.
 #[inline(never)]
-pub(crate) fn send_cer(
+pub(crate) fn push_send_cer(
     alloc: Global,
     conn: Conn,
     node: &Node,
@@ -45,12 +45,12 @@ pub(crate) fn send_cer(
     requires { array_vec_len actions.old < 4 }
     ensures { OnOk result (actions.new.items ≡ actions.old.items ++ sent conn (built_cer node.now next) ∷ []) }
 {
-    send(alloc, conn, cer(alloc, node, next)?, actions)
+    push_send(alloc, conn, cer(alloc, node, next)?, actions)
 }
 
 /// A DWR with the next number is to be sent.
 #[inline(never)]
-pub(crate) fn send_dwr(
+pub(crate) fn push_send_dwr(
     alloc: Global,
     conn: Conn,
     node: &Node,
@@ -60,12 +60,12 @@ pub(crate) fn send_dwr(
     requires { array_vec_len actions.old < 4 }
     ensures { OnOk result (actions.new.items ≡ actions.old.items ++ sent conn (built_dwr node.now next) ∷ []) }
 {
-    send(alloc, conn, dwr(alloc, node, next)?, actions)
+    push_send(alloc, conn, dwr(alloc, node, next)?, actions)
 }
 
 /// A DPR with the next number is to be sent.
 #[inline(never)]
-pub(crate) fn send_dpr(
+pub(crate) fn push_send_dpr(
     alloc: Global,
     conn: Conn,
     node: &Node,
@@ -76,12 +76,12 @@ pub(crate) fn send_dpr(
     requires { array_vec_len actions.old < 4 }
     ensures { OnOk result (actions.new.items ≡ actions.old.items ++ sent conn (built_dpr node.now next cause) ∷ []) }
 {
-    send(alloc, conn, dpr(alloc, node, next, cause)?, actions)
+    push_send(alloc, conn, dpr(alloc, node, next, cause)?, actions)
 }
 
 /// A CEA of success is to be sent.
 #[inline(never)]
-pub(crate) fn send_cea(
+pub(crate) fn push_send_cea(
     alloc: Global,
     conn: Conn,
     node: &Node,
@@ -92,7 +92,7 @@ pub(crate) fn send_cea(
     ensures { OnOk result (actions.new.items
         ≡ actions.old.items ++ sent conn (built_cea node.now to.now success None) ∷ []) }
 {
-    send(alloc, conn, cea(alloc, node, to, SUCCESS, None)?, actions)
+    push_send(alloc, conn, cea(alloc, node, to, SUCCESS, None)?, actions)
 }
 
 /// The octets of a DWA or DPA of success.
@@ -108,7 +108,7 @@ fn dwa_or_dpa_octets(alloc: Global, node: &Node, to: &Header) -> Result<Octets, 
 }
 
 /// A DWA or DPA of success is to be sent.
-pub(crate) fn send_success_answer(
+pub(crate) fn push_send_success(
     alloc: Global,
     conn: Conn,
     node: &Node,

@@ -23,7 +23,7 @@ ghost use Rattle.dm_peer.specs.Faults.{fault_of};
 ghost use Rattle.dm_peer.specs.Places.{footing_of};
 ghost use Rattle.dm_peer.specs.Lent.{heard_by};
 
-use crate::answer::put_actions;
+use crate::answer::push_actions;
 use crate::arrivals::{Footing, connection_footing, is_dropped, is_unread};
 use crate::commands::{first_request, word_heard};
 use crate::leaving::set_standing_after_step;
@@ -101,7 +101,7 @@ fn step_peer(
 {
     let input = input_of_event(event, heard);
     let (core, commands) = step_core(&peer.standing.get().core, input, &peer.config)?;
-    put_actions(alloc, peer, event, heard, commands.as_slice(), actions)?;
+    push_actions(alloc, peer, event, heard, commands.as_slice(), actions)?;
     let sent = first_request(commands.as_slice());
     set_standing_after_step(peer, event, heard, sent, core, actions);
     Ok(())

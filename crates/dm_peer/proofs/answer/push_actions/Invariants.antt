@@ -4,7 +4,7 @@ use Rattle.std.specs.List.{list_any}
 use Rattle.dm_peer.specs.Events.{event_told}
 use Rattle.dm_peer.specs.Lent.{heard_by}
 use Rattle.dm_peer.specs.Sent.{actions_of, takes_memory}
-use Rattle.dm_peer.proofs.answer.put_actions.Given as goal
+use Rattle.dm_peer.proofs.answer.push_actions.Given as goal
 
 -- there is room for the rest, and memory that it takes is memory that the whole takes
 abbrev pub invariant-loop-left : goal.invariant-loop-left
