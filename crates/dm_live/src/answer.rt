@@ -35,13 +35,13 @@ pub fn answer_order(
         × Answers form asked.entry (meeting_of node.old) (meeting_of node.new) more
         × (string_bytes text.new ≡ string_bytes text.old ++ more)) }
 {
-    let who = take_asked(alloc, form, node, asked, answer, text)?;
+    let who = take_order_or_piece(alloc, form, node, asked, answer, text)?;
     let last = tell_if_piece(alloc, form, node, asked, who, answer, text)?;
     put_answer_states(text, form, node, asked, last)
 }
 
 /// Appends what is asked comes to by itself, and answers whom it concerns. A piece is kept.
-fn take_asked(
+fn take_order_or_piece(
     alloc: Global,
     form: Form,
     node: &mut Node,

@@ -6,7 +6,7 @@ ghost use Rattle.dm_view.specs.JsonView.{command_json, kind_words, header_words,
 ghost use Rattle.dm_view.specs.View.{command_of};
 
 use crate::json_text::JsonText;
-use crate::json_words::{put_name, put_word};
+use crate::json_words::{put_name, put_word_if_meant};
 use dm_dict::{CommandDef, Dictionary};
 use dm_wire::Header;
 use std::alloc::AllocError;
@@ -34,9 +34,9 @@ fn put_json_flag_words(json: &mut JsonText, header: &Header) -> Result<(), Alloc
 {
     json.begin_array()?;
     json.string(kind_words(header))?;
-    put_word(json, header.proxiable, "proxiable")?;
-    put_word(json, header.error, "error")?;
-    put_word(json, header.retransmit, "retransmitted")?;
+    put_word_if_meant(json, header.proxiable, "proxiable")?;
+    put_word_if_meant(json, header.error, "error")?;
+    put_word_if_meant(json, header.retransmit, "retransmitted")?;
     json.end_array()?;
     Ok(())
 }

@@ -13,7 +13,7 @@ use std::alloc::AllocError;
 use std::str;
 
 /// Appends the member that is octets in hexadecimal, and the end of its object.
-fn put_digits(json: &mut JsonText, octets: &[u8]) -> Result<(), AllocError>
+fn put_octets_member(json: &mut JsonText, octets: &[u8]) -> Result<(), AllocError>
     ensures { OnOk result (json.new ≡ json.old ++ members_tokens (octets_member octets.now)) }
 {
     json.key("octets")?;
@@ -26,7 +26,7 @@ pub(crate) fn put_octets(json: &mut JsonText, octets: &[u8]) -> Result<(), Alloc
     ensures { OnOk result (json.new ≡ json.old ++ json_tokens (octets_json octets.now)) }
 {
     json.begin_object()?;
-    put_digits(json, octets)
+    put_octets_member(json, octets)
 }
 
 /// Appends what is wrong with octets, and the octets.
@@ -35,7 +35,7 @@ pub(crate) fn put_flaw(json: &mut JsonText, words: &str, octets: &[u8]) -> Resul
 {
     json.begin_object()?;
     json.text_member("flaw", words)?;
-    put_digits(json, octets)
+    put_octets_member(json, octets)
 }
 
 /// Appends octets that are UTF-8 as a text, others in hexadecimal.
@@ -45,11 +45,11 @@ pub(crate) fn put_text(json: &mut JsonText, octets: &[u8]) -> Result<(), AllocEr
     if are_clean(octets, b' ') {
         return json.clean_string(unsafe { str::from_utf8_unchecked(octets) });
     }
-    put_any_text(json, octets)
+    put_text_or_octets(json, octets)
 }
 
 /// Appends octets that may be no text.
-fn put_any_text(json: &mut JsonText, octets: &[u8]) -> Result<(), AllocError>
+fn put_text_or_octets(json: &mut JsonText, octets: &[u8]) -> Result<(), AllocError>
     ensures { OnOk result (json.new ≡ json.old ++ json_tokens (text_json octets.now)) }
 {
     match str::from_utf8(octets) {
@@ -80,7 +80,11 @@ pub(crate) fn put_vendor(json: &mut JsonText, vendor: Option<u32>) -> Result<(),
 }
 
 /// Appends a word, where it is meant.
-pub(crate) fn put_word(json: &mut JsonText, is_meant: bool, word: &str) -> Result<(), AllocError>
+pub(crate) fn put_word_if_meant(
+    json: &mut JsonText,
+    is_meant: bool,
+    word: &str,
+) -> Result<(), AllocError>
     ensures { (more : Items) → OnOk result (json.new ++ items_tokens more
         ≡ json.old ++ items_tokens (word_item is_meant word.now more)) }
 {

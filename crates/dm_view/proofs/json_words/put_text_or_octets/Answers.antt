@@ -1,7 +1,7 @@
 use Rattle.std.proofs.Common.{◌≡◌, ℕ, List, Bool, true, false, refl}
 use Rattle.std.specs.Str.{IsUtf8, is_utf8}
 use Rattle.std.proofs.lemmas.Str.{is_utf8-from_IsUtf8, IsUtf8-from_is_utf8}
-use Rattle.dm_view.proofs.json_words.put_any_text.Goals as goal
+use Rattle.dm_view.proofs.json_words.put_text_or_octets.Goals as goal
 
 not_utf8 : (s : List ℕ) → (IsUtf8 s → ⊥) → is_utf8 s ≡ false
 not_utf8 s h = by (is_utf8 s) refl
