@@ -9,6 +9,7 @@ returns c =
     let retransmitted = word_item h.retransmit (codes "retransmitted") no_items in
     let error = word_item h.error (codes "error") retransmitted in
     let proxiable = word_item h.proxiable (codes "proxiable") error in
-    c.in_ok-end_array.ensures ∙ c.in_ok-put_word_if_meant-3.ensures no_items ∙ c.in_ok-put_word_if_meant-2.ensures retransmitted
+    c.in_ok-end_array.ensures ∙ c.in_ok-put_word_if_meant-3.ensures no_items ∙
+    c.in_ok-put_word_if_meant-2.ensures retransmitted
     ∙ c.in_ok-put_word_if_meant.ensures error
     ∙ rw (c.in_ok-string.ensures, c.kind_words.ensures, c.in_ok-begin_array.ensures) (simp append_assoc)
