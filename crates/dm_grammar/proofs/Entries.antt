@@ -113,7 +113,7 @@ a_number : (how : Reading) (ws rest : List Word) (w : Word) → ws ≡ w ∷ res
     → collect how Starred ws ≡ filled HighIs w (collect how High rest)
 a_number how ws rest w e h = rw (e, collect, h) refl
 
--- what `optional` answers of a number
+-- what `take_token_if` answers of a number
 abbrev pub Number? : Option Token → List Word → List Word → Type 0
 Number? v ws rest =
     MatchOption v ((rest ≡ ws) × (begins_with (One symbols.Number) ws ≡ false))

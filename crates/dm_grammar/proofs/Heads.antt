@@ -17,7 +17,7 @@ use Rattle.dm_grammar.specs.Places.TokenRole.{NoPart, SecondIs, CodeIs, CommandH
 use Rattle.dm_grammar.specs.Readers.{begins_with, begins_flag, with_second, with_end, with_head}
 use Rattle.dm_grammar.specs.Told.{Gathered, filled, collect}
 
--- what `optional` answers
+-- what `take_token_if` answers
 abbrev pub Taken : Symbol → Option Token → List Word → List Word → Type 0
 Taken s v ws rest =
     MatchOption v ((rest ≡ ws) × (begins_with (One s) ws ≡ false))
