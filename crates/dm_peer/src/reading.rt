@@ -81,7 +81,7 @@ pub(crate) fn heard_as_good<'a>(header: &'a Header, word: Word) -> HeardRef<'a>
     }
 }
 
-/// A CER that passes its check.
+/// A CER that passes its check, refused where the capabilities that it tells are.
 // (It is rare, and in a function of its own in the machine's code too.)
 #[inline(never)]
 fn heard_cer<'a>(config: &Config, header: &'a Header, caps: &CapsRef<'_>) -> HeardRef<'a>
