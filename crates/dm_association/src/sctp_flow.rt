@@ -50,7 +50,7 @@ impl Model for SctpFlow {
     ghost view = { λ f. record { window = f.window; passed = f.passed; secured = f.secured } };
 }
 
-/// So many octets more.
+/// The octets that were counted and so many more, 2^64 - 1 at most.
 fn octet_sum(passed: u64, octets: usize) -> u64
     ensures { result ≡ more_passed passed octets }
 {

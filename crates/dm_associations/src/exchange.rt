@@ -13,7 +13,7 @@ const DIAMETER: u32 = 46;
 const NO_IDENTIFIER: u32 = 0;
 
 /// Whether a user message begins with the chunk, and that with the header of a Capabilities-Exchange-Request.
-fn begins_exchange(chunk: DataChunk<'_>) -> bool
+fn chunk_begins_exchange(chunk: DataChunk<'_>) -> bool
     ensures { IsTrue result ↔ ChunkBeginsExchange (data_seen chunk.entry) }
 {
     chunk.beginning
@@ -27,7 +27,7 @@ pub(crate) fn any_chunk_begins_exchange(octets: &[u8]) -> bool
 {
     one_list();
     'chunks: for chunk in DataChunks::new(octets) {
-        if begins_exchange(chunk) {
+        if chunk_begins_exchange(chunk) {
             return true;
         }
     }

@@ -25,7 +25,7 @@ pub(crate) fn first_time(first: Option<Time>, time: Option<Time>) -> Option<Time
 }
 
 impl Times {
-    /// By a clock that began with the first time.
+    /// The clock by which times are said; a relative one began with the first time.
     pub(crate) fn clock(self, first: Option<Time>) -> Clock
         ensures { result ≡ clock_of self first }
     {

@@ -5,17 +5,17 @@ use Rattle.dm_flows.specs.Sctps.{data_seen, HasData, HasNoData}
 use Rattle.dm_associations.proofs.Chunks.{begins_here, begins_later, begins_behind, begins_nowhere}
 use Rattle.dm_associations.proofs.exchange.any_chunk_begins_exchange.Goals as goal
 
-pub returns-then-begins_exchange : goal.returns-then-begins_exchange
-returns-then-begins_exchange c =
+pub returns-then-chunk_begins_exchange : goal.returns-then-chunk_begins_exchange
+returns-then-chunk_begins_exchange c =
     let has : HasData c.chunks.chunk-iterator (data_seen c.in-Some.chunk) c.next.new.self = c.in-Some.ensures.steps in
-    let begins = c.if-begins_exchange.ensures.0 refl in
+    let begins = c.if-chunk_begins_exchange.ensures.0 refl in
     ((λ _. c.chunks.invariant.1 (begins_here c.one_list.ensures.some _ _ c.next.new.self has begins)), (λ _. refl))
 
 pub chunks-preserved : goal.chunks-preserved
 chunks-preserved c =
     let has : HasData c.chunks.chunk-iterator (data_seen c.in-Some.chunk) c.next.new.self = c.in-Some.ensures.steps in
     let not : ChunkBeginsExchange (data_seen c.in-Some.chunk) → ⊥ =
-    λ begins. let no = c.if-begins_exchange.ensures.1 begins in cc in (
+    λ begins. let no = c.if-chunk_begins_exchange.ensures.1 begins in cc in (
       (λ begins. begins_behind c.one_list.ensures.one c.one_list.ensures.some _ _ c.next.new.self has not
           (c.chunks.invariant.0 begins)),
       (λ begins. c.chunks.invariant.1 (begins_later _ _ c.next.new.self has begins)),
