@@ -142,7 +142,7 @@ impl Bounds {
         self.lanes.len() / 2
     }
 
-    /// Whether each counter lies within its bounds.
+    /// True only where each counter that has bounds lies within them.
     #[inline(always)]
     pub(crate) fn hold(&self, counts: &[u16]) -> bool
         requires { length self.now.mins ≤ length counts.now }

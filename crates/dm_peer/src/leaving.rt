@@ -8,7 +8,7 @@ ghost use Rattle.dm_peer.specs.Lent.{heard_by};
 ghost use Rattle.dm_peer.specs.Said.{Heard, word_heard};
 
 use crate::commands::{Request, header_heard, word_heard};
-use crate::keeping::kept_standing;
+use crate::kept_peer::kept_standing;
 use crate::reading::HeardRef;
 use crate::standing::{Awaited, Standing};
 use crate::{Actions, Event, Peer};

@@ -9,7 +9,7 @@ mod commands;
 mod config;
 mod events;
 mod fault;
-mod keeping;
+mod kept_peer;
 pub mod laws;
 mod leaving;
 mod message;

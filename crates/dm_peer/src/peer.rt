@@ -17,7 +17,7 @@ ghost use Rattle.dm_peer.specs.declared.fault.PeerFault.{PeerFault};
 ghost use Rattle.dm_peer.specs.declared.fault.PeerFault.TheVariants.{NoMemory};
 
 use crate::arrivals::is_held_connection;
-use crate::keeping::handle_event_of_kept_peer;
+use crate::kept_peer::handle_event_of_kept_peer;
 use crate::laws::{refusals_go_by_rule, silent_takes_none};
 use crate::standing::Kept;
 use crate::{Actions, Config, Event, PeerFault};

@@ -8,7 +8,7 @@ ghost use Rattle.dm_wire.specs.Printed.{data_text};
 ghost use Rattle.dm_dict.specs.Rules.{definition};
 ghost use Rattle.dm_view.specs.View.{avp_name, front_view, avp_view, avps_view, group_view};
 
-use crate::behind_name::put_code_and_flags;
+use crate::code_and_flags::put_code_vendor_and_flags;
 use crate::data::put_data;
 use crate::words::{put_indent, put_octets_name, put_words_and_octets};
 use dm_dict::{AvpDef, AvpType, Dictionary};
@@ -39,7 +39,7 @@ pub(crate) fn put_avp_front(
         ≡ string_bytes text.old ++ front_view (option_copied def.entry) (avp_of avp.entry)) }
 {
     put_avp_name(text, def)?;
-    put_code_and_flags(text, avp)
+    put_code_vendor_and_flags(text, avp)
 }
 
 /// Appends words, data in hexadecimal, and the end of the line.

@@ -3,8 +3,8 @@
 #![tactic(auto)]
 
 mod avps;
-mod behind_name;
 mod clean;
+mod code_and_flags;
 mod data;
 mod described;
 mod described_data;

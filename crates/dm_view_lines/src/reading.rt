@@ -12,7 +12,7 @@ ghost use Rattle.dm_view_lines.specs.Came.{goes_further};
 use crate::gathered::{Style, write_waiting};
 use crate::put_fault::PutFault;
 use crate::run_fault::RunFault;
-use crate::seam::{Seam, tell_last_line, tell_piece};
+use crate::seam::{Seam, gather_last_line, gather_piece};
 use crate::speaker::Speaker;
 use crate::turns::Output;
 use dm_dict::Dictionary;
@@ -53,7 +53,7 @@ fn write_unless_failed<W: Write>(
     }
 }
 
-/// Says the lines that end in these octets, as `tell_piece` does, and writes that.
+/// Says the lines that end in these octets, as `gather_piece` does, and writes that.
 fn say_octets<S: Speaker, W: Write>(
     alloc: Global,
     dictionary: &Dictionary,
@@ -79,7 +79,7 @@ fn say_octets<S: Speaker, W: Write>(
         seam.old.lines speaker.old seam.old.held.items octets.now fault (W.contents writer.old) []
         (W.contents writer.new) []) }
 {
-    let put = tell_piece(
+    let put = gather_piece(
         alloc, dictionary, style, speaker, seam, octets, output, writer,
     );
     write_unless_failed(put, output, writer)
@@ -170,7 +170,7 @@ fn say_last_line<S: Speaker, W: Write>(
         seam.old.lines speaker.old (lines (ended seam.old.held.items)) [] fault (W.contents writer.old) []
         (W.contents writer.new) []) }
 {
-    let put = tell_last_line(alloc, dictionary, style, speaker, seam, output, writer);
+    let put = gather_last_line(alloc, dictionary, style, speaker, seam, output, writer);
     write_unless_failed(put, output, writer)
 }
 

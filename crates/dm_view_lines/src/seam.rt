@@ -11,7 +11,7 @@ use crate::files::is_ended;
 use crate::gathered::Style;
 use crate::put_fault::PutFault;
 use crate::speaker::Speaker;
-use crate::turns::{LINE_LIMIT, Output, tell_lines};
+use crate::turns::{LINE_LIMIT, Output, gather_lines};
 use dm_dict::Dictionary;
 use memchr::{memchr, memrchr};
 use std::alloc::Global;
@@ -55,7 +55,7 @@ fn hold_piece(seam: &mut Seam, piece: &[u8]) -> Result<(), PutFault>
 }
 
 /// Says the line that is held and ends with these octets. True where more is to be said.
-fn tell_held_line<S: Speaker, W: Write>(
+fn gather_held_line<S: Speaker, W: Write>(
     alloc: Global,
     dictionary: &Dictionary,
     style: Style,
@@ -79,7 +79,7 @@ fn tell_held_line<S: Speaker, W: Write>(
 {
     seam.held.extend_from_slice(front)?;
     let before = seam.lines;
-    let (number, going) = tell_lines(
+    let (number, going) = gather_lines(
         alloc,
         dictionary,
         style,
@@ -96,7 +96,7 @@ fn tell_held_line<S: Speaker, W: Write>(
 
 /// Says the lines that end in these octets, and holds what is left of them; nothing is held before. True where more is
 /// to be said.
-fn tell_whole_lines<S: Speaker, W: Write>(
+fn gather_whole_lines<S: Speaker, W: Write>(
     alloc: Global,
     dictionary: &Dictionary,
     style: Style,
@@ -120,7 +120,7 @@ fn tell_whole_lines<S: Speaker, W: Write>(
 {
     let end = whole_lines_len(octets);
     let before = seam.lines;
-    let (number, going) = tell_lines(
+    let (number, going) = gather_lines(
         alloc,
         dictionary,
         style,
@@ -139,7 +139,7 @@ fn tell_whole_lines<S: Speaker, W: Write>(
 
 /// Says the lines that end in these octets, the first of which began with what is held, and holds what is left of them.
 /// True where more is to be said.
-pub(crate) fn tell_piece<S: Speaker, W: Write>(
+pub(crate) fn gather_piece<S: Speaker, W: Write>(
     alloc: Global,
     dictionary: &Dictionary,
     style: Style,
@@ -162,7 +162,7 @@ pub(crate) fn tell_piece<S: Speaker, W: Write>(
         (W.contents writer.old) output.old.waits.items (W.contents writer.new) output.new.waits.items) }
 {
     if seam.held.is_empty() {
-        return tell_whole_lines(
+        return gather_whole_lines(
             alloc, dictionary, style, speaker, seam, octets, output, writer,
         );
     }
@@ -173,12 +173,12 @@ pub(crate) fn tell_piece<S: Speaker, W: Write>(
         }
         Some(at) => {
             let front = &octets[..at + 1];
-            if !tell_held_line(
+            if !gather_held_line(
                 alloc, dictionary, style, speaker, seam, front, output, writer,
             )? {
                 return Ok(false);
             }
-            tell_whole_lines(
+            gather_whole_lines(
                 alloc,
                 dictionary,
                 style,
@@ -193,7 +193,7 @@ pub(crate) fn tell_piece<S: Speaker, W: Write>(
 }
 
 /// Says the line that is held, which ends with the input, where one is. True where more could be said.
-pub(crate) fn tell_last_line<S: Speaker, W: Write>(
+pub(crate) fn gather_last_line<S: Speaker, W: Write>(
     alloc: Global,
     dictionary: &Dictionary,
     style: Style,
@@ -217,7 +217,7 @@ pub(crate) fn tell_last_line<S: Speaker, W: Write>(
         seam.held.extend_from_slice(b"\n")?;
     }
     let before = seam.lines;
-    let (number, going) = tell_lines(
+    let (number, going) = gather_lines(
         alloc,
         dictionary,
         style,

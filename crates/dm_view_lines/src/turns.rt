@@ -39,7 +39,7 @@ fn next_line_number(before: u64, line: &[u8]) -> Result<u64, PutFault>
 }
 
 /// Says a line behind so many others, and gathers that. It tells how many were said, and whether more is to be said.
-fn tell_line<S: Speaker, W: Write>(
+fn gather_line<S: Speaker, W: Write>(
     alloc: Global,
     dictionary: &Dictionary,
     style: Style,
@@ -82,7 +82,7 @@ fn tell_line<S: Speaker, W: Write>(
 
 /// Says the lines of octets, behind so many others, up to one behind which nothing more is to be said. It tells how
 /// many were said, and whether more is to be said.
-pub(crate) fn tell_lines<S: Speaker, W: Write>(
+pub(crate) fn gather_lines<S: Speaker, W: Write>(
     alloc: Global,
     dictionary: &Dictionary,
     style: Style,
@@ -105,7 +105,7 @@ pub(crate) fn tell_lines<S: Speaker, W: Write>(
 {
     let mut so_far = before;
     for line in Lines::new(octets) {
-        let (number, going) = tell_line(
+        let (number, going) = gather_line(
             alloc, dictionary, style, speaker, so_far, line, output, writer,
         )?;
         so_far = number;

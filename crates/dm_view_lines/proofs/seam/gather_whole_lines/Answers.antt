@@ -2,7 +2,7 @@ use Rattle.std.proofs.Common.{refl}
 use Rattle.std.proofs.lemmas.List.{take_rest}
 use Rattle.dm_view_lines.proofs.Turning.{handed_on, breaks-held}
 use Rattle.dm_view_lines.proofs.SeamSaid.{tells-broken, rest_breaks, rest_tells, rest_stops, rest_one, rest_long}
-use Rattle.dm_view_lines.proofs.seam.tell_whole_lines.Goals as goal
+use Rattle.dm_view_lines.proofs.seam.gather_whole_lines.Goals as goal
 
 pub returns-in_err-number-clause-stopped : goal.returns-in_err-number-clause-stopped
 returns-in_err-number-clause-stopped g c =

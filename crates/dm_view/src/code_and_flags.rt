@@ -6,7 +6,7 @@ ghost use Rattle.std.specs.Str.{IsAscii};
 ghost use Rattle.std.specs.String.{string_bytes};
 ghost use Rattle.dm_wire.specs.Borrowed.{avp_of};
 ghost use Rattle.dm_wire.specs.Printed.{avp_marks, avp_front_text, vendor_text};
-ghost use Rattle.dm_view.specs.declared.behind_name.TheConstants.{LETTERS as letters, FRONT_SIZE as front_size};
+ghost use Rattle.dm_view.specs.declared.code_and_flags.TheConstants.{LETTERS as letters, FRONT_SIZE as front_size};
 
 use dm_wire::{AvpRef, avp_letters};
 use itoa::write_digits;
@@ -61,7 +61,10 @@ fn prepend_vendor(vendor: Option<u32>, room: &mut [u8; FRONT_SIZE]) -> usize
 }
 
 /// Appends code, vendor and flags, a space before them.
-pub(crate) fn put_code_and_flags(text: &mut String, avp: AvpRef<'_>) -> Result<(), AllocError>
+pub(crate) fn put_code_vendor_and_flags(
+    text: &mut String,
+    avp: AvpRef<'_>,
+) -> Result<(), AllocError>
     ensures { OnOk result (string_bytes text.new
         ≡ string_bytes text.old ++ 32 ∷ avp_front_text (avp_of avp.entry)) }
 {

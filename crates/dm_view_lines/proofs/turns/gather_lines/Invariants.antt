@@ -2,7 +2,7 @@ use Rattle.std.proofs.Common.{◌≡◌, ◌++◌, ℕ, List, true}
 use Rattle.std.specs.Str.Lines.{lines}
 use Rattle.dm_view_lines.specs.Colours.{styled}
 use Rattle.dm_view_lines.specs.Turns.{TellsLines}
-use Rattle.dm_view_lines.proofs.turns.tell_lines.Given as goal
+use Rattle.dm_view_lines.proofs.turns.gather_lines.Given as goal
 
 -- the lines before are said, and more is to be said
 abbrev pub invariant-loop-line : goal.invariant-loop-line

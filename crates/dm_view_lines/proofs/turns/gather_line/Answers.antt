@@ -1,6 +1,6 @@
 use Rattle.std.proofs.Common.{[]}
 use Rattle.dm_view_lines.proofs.Turning.{handed_on, line_told, line_left, breaks-none}
-use Rattle.dm_view_lines.proofs.turns.tell_line.Goals as goal
+use Rattle.dm_view_lines.proofs.turns.gather_line.Goals as goal
 
 pub returns-in_err-number-clause-stopped : goal.returns-in_err-number-clause-stopped
 returns-in_err-number-clause-stopped g c =

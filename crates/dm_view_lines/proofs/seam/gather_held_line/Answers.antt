@@ -1,7 +1,7 @@
 use Rattle.std.proofs.Common.{[]}
 use Rattle.dm_view_lines.specs.declared.put_fault.PutFault.TheVariants.{Memory}
 use Rattle.dm_view_lines.proofs.Turning.{handed_on, breaks-none}
-use Rattle.dm_view_lines.proofs.seam.tell_last_line.Goals as goal
+use Rattle.dm_view_lines.proofs.seam.gather_held_line.Goals as goal
 
 pub returns-in_err-extend_from_slice-clause-stopped : goal.returns-in_err-extend_from_slice-clause-stopped
 returns-in_err-extend_from_slice-clause-stopped g c =

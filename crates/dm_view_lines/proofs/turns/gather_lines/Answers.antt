@@ -1,7 +1,7 @@
 use Rattle.std.proofs.Common.{◌∷◌, [], ◌++◌, ap, sym, ◌∙◌, subst}
 use Rattle.std.specs.Str.Lines.{lines}
 use Rattle.dm_view_lines.proofs.Turning.{handed_on, tells-none, tells_next, tells_end, breaks_at}
-use Rattle.dm_view_lines.proofs.turns.tell_lines.Goals as goal
+use Rattle.dm_view_lines.proofs.turns.gather_lines.Goals as goal
 
 pub loop-line-init : goal.loop-line-init
 loop-line-init g c = record {
@@ -30,5 +30,5 @@ loop-line-preserved g c =
       before = c.loop-line.invariant.before ++ c.in-Some.line.now ∷ [];
       lines_are = next.0;
       told = next.1;
-      goes = subst (g.S.Speaker.goes c.tell_line.new.speaker) c.if-not-going.false c.in_ok-number.ensures.goes;
+      goes = subst (g.S.Speaker.goes c.gather_line.new.speaker) c.if-not-going.false c.in_ok-number.ensures.goes;
     }

@@ -1,4 +1,5 @@
-//! What every event keeps of a peer, and what it sends: spellings, and to a stranger no more than an answer.
+//! What holds of every peer (`Kept`) is used at an event, and kept by it: each Send spells a message, and a stranger
+//! gets an answer at most.
 ghost use Rattle.std.specs.Prelude.{◌≡◌, ℕ, IfErr, OnOk, OnErr, List, [], All};
 ghost use Rattle.dm_machine.specs.declared.connection.Conn.{Conn};
 ghost use Rattle.dm_peer.specs.Acts.{Moved, acts, standing_at, IsRefused};
@@ -31,7 +32,8 @@ pub(crate) fn kept_standing(
     Kept::new(standing)
 }
 
-/// What the event comes to at a peer that holds what every peer does.
+/// What the event comes to ([`handle_event`]), with what follows of it since the peer is what events make of a new one
+/// (`Kept`): each Send spells a message (`spelled`), and a stranger's octets change nothing (`stranger`).
 pub(crate) fn handle_event_of_kept_peer(
     alloc: Global,
     peer: &mut Peer,

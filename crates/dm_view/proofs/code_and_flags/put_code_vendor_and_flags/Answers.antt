@@ -8,8 +8,8 @@ use Rattle.std.specs.Str.{IsAscii}
 use Rattle.dm_wire.specs.declared.avp.Avp.{Avp}
 use Rattle.dm_wire.specs.Borrowed.{avp_of}
 use Rattle.dm_wire.specs.Printed.{avp_front_text, avp_marks, vendor_text}
-use Rattle.dm_view.proofs.behind_name.put_code_and_flags.Goals as goal
-use Rattle.dm_view.proofs.behind_name.put_code_and_flags.Goals.{After-prepend_number-start}
+use Rattle.dm_view.proofs.code_and_flags.put_code_vendor_and_flags.Goals as goal
+use Rattle.dm_view.proofs.code_and_flags.put_code_vendor_and_flags.Goals.{After-prepend_number-start}
 
 -- code, vendor and letters, one behind the other
 flat : (a : Avp) → 32 ∷ avp_front_text a
