@@ -85,17 +85,17 @@ pub(crate) fn caller<'a>(octets: &'a [u8]) -> Option<(Header, &'a [u8])>
 /// What a stranger is answered on the connection; or want of memory, which only the answer to a CER takes.
 pub(crate) fn answer_to(
     alloc: Global,
-    node: &Node,
+    own: &Node,
     conn: Conn,
     octets: &[u8],
 ) -> Result<Actions, NoMemory>
-    ensures answer { IfOk result (λ actions. actions.items ≡ answer_to node.now conn (caller_of octets.now)) }
+    ensures answer { IfOk result (λ actions. actions.items ≡ answer_to own.now conn (caller_of octets.now)) }
     ensures spelled { IfOk result (λ actions. All SendsSpelling actions.items) }
     ensures memory { OnErr result (IsSome (caller_of octets.now)) }
 {
     let mut actions = ArrayVec::new();
     if let Some((header, _)) = caller(octets) {
-        let answer = error_answer(alloc, node, &header, UNKNOWN_PEER)?;
+        let answer = error_answer(alloc, own, &header, UNKNOWN_PEER)?;
         actions.push(Action::Send(conn, sent_octets(alloc, &answer)?));
     }
     actions.push(Action::Close(conn));

@@ -29,16 +29,16 @@ pub(crate) struct StrangerActions {
 /// A stranger is answered, where the octets are a CER, and closed.
 fn turn_away(
     alloc: Global,
-    node: &Node,
+    own: &Node,
     conn: Conn,
     octets: &[u8],
 ) -> Result<StrangerActions, OrderFault>
     ensures nobody { IfOk result (λ r. r.neighbour ≡ None) }
-    ensures answer { IfOk result (λ r. r.actions.items ≡ answer_to node.now conn (caller_of octets.now)) }
+    ensures answer { IfOk result (λ r. r.actions.items ≡ answer_to own.now conn (caller_of octets.now)) }
     ensures spelled { IfOk result (λ r. All SendsSpelling r.actions.items) }
     ensures memory { IfErr result (λ f. (f ≡ faults.Peer peer_faults.NoMemory) × IsSome (caller_of octets.now)) }
 {
-    match answer_to(alloc, node, conn, octets) {
+    match answer_to(alloc, own, conn, octets) {
         Ok(actions) => Ok(StrangerActions {
             neighbour: None,
             actions,
@@ -50,14 +50,14 @@ fn turn_away(
 /// What is done at octets of a connection that concern no neighbour.
 fn welcome_or_turn_away<S: Strangers>(
     alloc: Global,
-    node: &Node,
+    own: &Node,
     neighbours: &mut Neighbours,
     strangers: &S,
     conn: Conn,
     octets: &[u8],
 ) -> Result<StrangerActions, OrderFault>
     requires { (i : ℕ) → IsAddressed (S.policy strangers.now) neighbours.old conn octets.now i → ⊥ }
-    ensures moved { IfOk result (λ r. NodeMoves (S.policy strangers.now) conn octets.now node.now
+    ensures moved { IfOk result (λ r. NodeMoves (S.policy strangers.now) conn octets.now own.now
         neighbours.old r.neighbour r.actions.items neighbours.new) }
     ensures spelled { IfOk result (λ r. All SendsSpelling r.actions.items) }
     ensures memory { IfErr result (λ f. (f ≡ faults.Peer peer_faults.NoMemory) × IsSome (caller_of octets.now)) }
@@ -65,7 +65,7 @@ fn welcome_or_turn_away<S: Strangers>(
 {
     match offered_config(alloc, neighbours, strangers, octets) {
         Ok(Some(config)) => welcome(alloc, neighbours, config, conn, octets),
-        Ok(None) => turn_away(alloc, node, conn, octets),
+        Ok(None) => turn_away(alloc, own, conn, octets),
         Err(_) => Err(OrderFault::Peer(PeerFault::NoMemory)),
     }
 }
@@ -73,13 +73,13 @@ fn welcome_or_turn_away<S: Strangers>(
 /// What is done at an event that concerns no neighbour.
 fn stranger_actions<S: Strangers>(
     alloc: Global,
-    node: &Node,
+    own: &Node,
     neighbours: &mut Neighbours,
     strangers: &S,
     event: NodeEvent<'_>,
 ) -> Result<StrangerActions, OrderFault>
     requires { (i : ℕ) → Concerns (S.policy strangers.now) neighbours.old event i → ⊥ }
-    ensures told { IfOk result (λ r. NodeIsTold (S.policy strangers.now) event.entry node.now
+    ensures told { IfOk result (λ r. NodeIsTold (S.policy strangers.now) event.entry own.now
         neighbours.old r.neighbour r.actions.items neighbours.new) }
     ensures spelled { IfOk result (λ r. All SendsSpelling r.actions.items) }
     ensures memory { IfErr result (λ f. (f ≡ faults.Peer peer_faults.NoMemory) × IsStrangeCer event.entry) }
@@ -87,7 +87,7 @@ fn stranger_actions<S: Strangers>(
 {
     match event {
         NodeEvent::Arrived(conn, octets) => {
-            welcome_or_turn_away(alloc, node, neighbours, strangers, conn, octets)
+            welcome_or_turn_away(alloc, own, neighbours, strangers, conn, octets)
         }
         _ => Ok(StrangerActions {
             neighbour: None,
@@ -100,20 +100,20 @@ fn stranger_actions<S: Strangers>(
 #[inline(never)]
 pub(crate) fn tell_unknown<S: Strangers>(
     alloc: Global,
-    node: &Node,
+    own: &Node,
     neighbours: &mut Neighbours,
     strangers: &S,
     event: NodeEvent<'_>,
     answer: &mut Answer,
 ) -> Result<(), OrderFault>
     requires { (i : ℕ) → Concerns (S.policy strangers.now) neighbours.old event i → ⊥ }
-    ensures told { OnOk result (NodeIsTold (S.policy strangers.now) event.entry node.now neighbours.old
+    ensures told { OnOk result (NodeIsTold (S.policy strangers.now) event.entry own.now neighbours.old
         answer.new.neighbour answer.new.actions.items neighbours.new) }
     ensures spelled { OnOk result (All SendsSpelling answer.new.actions.items) }
     ensures memory { IfErr result (λ f. (f ≡ faults.Peer peer_faults.NoMemory) × IsStrangeCer event.entry) }
     ensures unchanged { OnErr result (neighbours.new ≡ neighbours.old) }
 {
-    match stranger_actions(alloc, node, neighbours, strangers, event) {
+    match stranger_actions(alloc, own, neighbours, strangers, event) {
         Ok(done) => {
             answer.neighbour = done.neighbour;
             answer.actions = done.actions;

@@ -13,5 +13,5 @@ welcome_or_turn_away-requires g c =
 
 pub returns-in_default-clause-told : goal.returns-in_default-clause-told
 returns-in_default-clause-told g c =
-    nothing_told (g.S.Strangers.policy c.args.strangers.now) c.args.event c.args.node.now c.args.neighbours.now
+    nothing_told (g.S.Strangers.policy c.args.strangers.now) c.args.event c.args.own.now c.args.neighbours.now
     c.new.result.items c.new.ensures c.in_default.not-Arrived c.requires

@@ -18,7 +18,7 @@ returns-in-Ok-Some-clause-moved g c =
     let permitted = at_some (PermitsAnywhere policy ps c.args.octets.now) c.in-Ok-Some.field-0 c.in-Ok-Some.config
     c.in-Ok-Some.field-0-is c.in-Ok-Some.ensures.offered c.args.conn c.requires in
     both_ok c.welcome.result
-    (λ r joins out. welcomed policy c.args.conn c.args.octets.now c.args.node.now ps c.welcome.new.neighbours
+    (λ r joins out. welcomed policy c.args.conn c.args.octets.now c.args.own.now ps c.welcome.new.neighbours
     r.neighbour r.actions.items c.in-Ok-Some.config c.requires permitted joins out)
     c.welcome.ensures.taken c.welcome.ensures.left
 
@@ -38,6 +38,6 @@ returns-in-Ok-None-clause-moved g c =
     let forbidden = at_none ((d : Conn) → IsForbidden policy ps d c.args.octets.now) c.in-Ok-None.field-0
     c.in-Ok-None.field-0-is c.in-Ok-None.ensures.none in
     both_ok c.turn_away.result
-    (λ r nobody answer. turned_off policy c.args.conn c.args.octets.now c.args.node.now ps r.neighbour r.actions.items
+    (λ r nobody answer. turned_off policy c.args.conn c.args.octets.now c.args.own.now ps r.neighbour r.actions.items
     c.requires (forbidden c.args.conn) nobody answer)
     c.turn_away.ensures.nobody c.turn_away.ensures.answer
