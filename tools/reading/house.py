@@ -302,22 +302,36 @@ def known_words(top):
     return found | {it for word in found for it in word.split("-")}
 
 
-def is_there(name, words, paths):
-    """Whether the repository has what a page names: a file, or each part of a name."""
+def methods(top):
+    """Returns by each type of the sources the functions of the files in which it or an `impl` of it stands."""
+    found = {}
+    for path in [it for paths in sources(top, "src", ".rt").values() for it in paths]:
+        text = read(f"{top}/{path}")
+        types = re.findall(r"^(?:pub(?:\(\w+\))? )?(?:struct|enum|trait) (\w+)|^impl\b[^{]*?\b(\w+)(?:<[^{]*>)?\s*(?:\{|where)", text, re.M)
+        for name in {one or other for one, other in types}:
+            found.setdefault(name, set()).update(re.findall(r"\bfn (\w+)", text))
+    return found
+
+
+def is_there(name, words, paths, of_types):
+    """Whether the repository has what a page names: a file, or each part of a name, and a method at its type."""
     if FILE.match(name):
         return any(re.search(rf"(?:^|/){re.escape(name.rstrip('/'))}(?:/|$|\.\w+$)", it) for it in paths)
+    method = re.search(r"\b([A-Z]\w*)::([a-z]\w*)$", name)
+    if method and method[1] in of_types and method[2] not in of_types[method[1]]:
+        return False
     return all(part in words for part in re.split(r"::|\.", name) if part)
 
 
 def names_that_are_gone(top):
     """Names in a page's code spans that the repository hasn't. docs/PERF.md tells what was before, and isn't asked."""
-    found, words = [], known_words(top)
+    found, words, of_types = [], known_words(top), methods(top)
     paths = files(top, "README.md", "docs", "crates", "tools", "bench", "live", "dictionaries", ".ci")
     for path in [it for it in pages(top) if it != "docs/PERF.md"]:
         for number, line in enumerate(read(f"{top}/{path}").split("\n"), 1):
             for name in re.findall(r"(?<!`)`([^`]+)`(?!`)", line):
                 name = re.sub(r"\(.*\)$|^&", "", name)
-                if not FOREIGN.match(name) and not is_there(name, words, paths):
+                if not FOREIGN.match(name) and not is_there(name, words, paths, of_types):
                     found.append(f"{path}:{number}: {name}")
     return found
 
