@@ -17,7 +17,9 @@ pub returns-clause-settled : goal.returns-clause-settled
 returns-clause-settled c =
     let after = c.snapshot-after.result in
     let left = left_by c.args.answer.now.actions.items (intakes_of c.args.slots.now) in
-    rw (c.leave.ensures.left, c.as_slice.ensures.value, c.reown.ensures.intakes) at c.raise_open.ensures.raised
+    let raised =
+    rw (c.leave.ensures.left, c.as_slice.ensures.value, c.reown.ensures.intakes) at c.raise_open.ensures.raised in
+    raised
     ∙ raised_so (concerned_in c.args.neighbours.now c.args.answer.now.neighbour) after.state after.held.initiated
     after.held.accepted c.is_open.result c.args.most left c.is_open.ensures c.snapshot-after.ensures.state
     c.snapshot-after.ensures.initiated c.snapshot-after.ensures.accepted
@@ -27,8 +29,9 @@ returns-clause-held c =
     let ps = c.args.neighbours.now in
     let after = c.snapshot-after.result in
     let left = left_by c.args.answer.now.actions.items (intakes_of c.args.slots.now) in
-    let settled =
-    rw (c.leave.ensures.left, c.as_slice.ensures.value, c.reown.ensures.intakes) at c.raise_open.ensures.raised
+    let raised =
+    rw (c.leave.ensures.left, c.as_slice.ensures.value, c.reown.ensures.intakes) at c.raise_open.ensures.raised in
+    let settled = raised
     ∙ raised_so (concerned_in ps c.args.answer.now.neighbour) after.state after.held.initiated
     after.held.accepted c.is_open.result c.args.most left c.is_open.ensures c.snapshot-after.ensures.state
     c.snapshot-after.ensures.initiated c.snapshot-after.ensures.accepted in
