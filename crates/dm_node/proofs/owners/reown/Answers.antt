@@ -1,5 +1,5 @@
 -- The neighbour that was told an event has what it holds, and the others have what they had.
-use Rattle.std.proofs.Common.{refl, subst}
+use Rattle.std.proofs.Common.{◌≡◌, refl, subst}
 use Rattle.dm_machine.specs.declared.connection.Conn.{Conn}
 use Rattle.dm_slots.specs.Held.{owners_of}
 use Rattle.dm_node.specs.Holding.{holds_it}

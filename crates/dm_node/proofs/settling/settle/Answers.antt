@@ -8,8 +8,8 @@ use Rattle.dm_node.proofs.NodeStaying.{held_left, concerned_there, raised_so}
 use Rattle.dm_node.proofs.Owning.{owned_left}
 use Rattle.dm_node.proofs.settling.settle.Goals as goal
 
-pub reown-requires-there : goal.reown-requires-there
-reown-requires-there c = λ d held.
+pub reown-requires : goal.reown-requires
+reown-requires c = λ d held.
     concerned_there c.args.neighbours.now (intakes_of c.args.slots.now) c.args.answer.now.neighbour d c.requires.there
     (sym (c.snapshot-after.ensures.held d) ∙ held)
 

@@ -38,8 +38,8 @@ returns-in-Ok-tell_neighbours-clause-places g c =
     c.in-Ok-copy_exchange.ensures.copied c.copy_exchange.ensures.same c.in-Ok-tell_neighbours.ensures.told c.meet_behind.ensures.met
     c.meet_behind.ensures.unmet)
 
-pub meet_behind-requires-room : goal.meet_behind-requires-room
-meet_behind-requires-room g c = λ i is none.
+pub meet_behind-requires-clause-room : goal.meet_behind-requires-clause-room
+meet_behind-requires-clause-room g c = λ i is none.
     let policy = g.S.Strangers.policy c.args.strangers.now in
     let ps = c.args.neighbours.now in
     let looked = state_looked policy ps (event.Arrived c.args.conn c.args.octets) c.in-Ok.who _
@@ -51,8 +51,8 @@ meet_behind-requires-room g c = λ i is none.
     c.snapshot-before.result.state i c.requires.places looked c.in-Ok-tell_neighbours.ensures.told is
     (ap (λ l. nat_lt i (length l)) (sym c.copy_exchange.ensures.same) ∙ none))
 
-pub meet_behind-requires-there : goal.meet_behind-requires-there
-meet_behind-requires-there g c = λ i is stood.
+pub meet_behind-requires-clause-there : goal.meet_behind-requires-clause-there
+meet_behind-requires-clause-there g c = λ i is stood.
     let policy = g.S.Strangers.policy c.args.strangers.now in
     let ps = c.args.neighbours.now in
     let looked = state_looked policy ps (event.Arrived c.args.conn c.args.octets) c.in-Ok.who _
@@ -63,8 +63,8 @@ meet_behind-requires-there g c = λ i is stood.
     c.tell_neighbours.new.answer.neighbour c.tell_neighbours.new.answer.actions.items (known_of c.args.known.now)
     c.snapshot-before.result.state i c.requires.places looked c.in-Ok-tell_neighbours.ensures.told is stood
 
-pub meet_behind-requires-copied : goal.meet_behind-requires-copied
-meet_behind-requires-copied g c = λ stood.
+pub meet_behind-requires-clause-copied : goal.meet_behind-requires-clause-copied
+meet_behind-requires-clause-copied g c = λ stood.
     open_copies_none c.args.octets.now c.in-Ok-copy_exchange.exchange c.snapshot-before.result.state
     c.in-Ok-copy_exchange.ensures.copied stood
 
