@@ -9,9 +9,11 @@ use Rattle.dm_node.proofs.Owning.{owned_left}
 use Rattle.dm_node.proofs.settling.settle.Goals as goal
 
 pub reown-requires : goal.reown-requires
-reown-requires c = λ d held.
-    concerned_there c.args.neighbours.now (intakes_of c.args.slots.now) c.args.answer.now.neighbour d c.requires.there
-    (sym (c.snapshot-after.ensures.held d) ∙ held)
+reown-requires c = record {
+  there = λ d held.
+      concerned_there c.args.neighbours.now (intakes_of c.args.slots.now) c.args.answer.now.neighbour d c.requires.there
+      (sym (c.snapshot-after.ensures.held d) ∙ held);
+}
 
 pub returns-clause-settled : goal.returns-clause-settled
 returns-clause-settled c =
@@ -44,6 +46,6 @@ pub returns-clause-owned : goal.returns-clause-owned
 returns-clause-owned c = λ ps is owned.
     let qs = c.args.neighbours.now in
     owned_left qs c.args.answer.now.actions.items (owners_of c.reown.new.slots)
-    (owners_of c.raise_open.new.slots) c.requires.free
+    (owners_of c.raise_open.new.self) c.requires.free
     (c.raise_open.ensures.owners ∙ rw (c.as_slice.ensures.value) at c.leave.ensures.owners)
     (c.reown.ensures.owned ps qs c.neighbours_are_sound.ensures.apart.apart c.snapshot-after.ensures.held is owned)
