@@ -3,7 +3,7 @@ use Rattle.dm_replay.proofs.configs.config_with_dictionary_of.Goals as goal
 
 pub unreachable-requires : goal.unreachable-requires
 unreachable-requires c =
-    no_fault c.args.own.host.now c.args.other.host.now c.in_ok-node_of_host.node.host c.in_ok-peer.peer.items
+    no_fault c.args.own.host.now c.args.other.host.now c.in_ok-node.node.host c.in_ok-peer.peer.items
     c.in-Err.fault
-    c.in_ok-node_of_host.ensures.host c.in_ok-peer.ensures.items
+    c.in_ok-node.ensures.host c.in_ok-peer.ensures.items
     c.requires.other c.requires.differ c.in-Err.ensures.fault c.in-BadHost.is
