@@ -21,7 +21,7 @@ impl Model for Fragment {
 }
 
 impl Fragment {
-    /// A copy of these octets.
+    /// A fragment with these marks, of a copy of these octets.
     pub(crate) fn new(
         alloc: Global,
         marks: ChunkMarks,
@@ -35,18 +35,21 @@ impl Fragment {
         }
     }
 
+    /// The B and E bits of the fragment, and its stream.
     pub(crate) fn marks(&self) -> ChunkMarks
         ensures { result ≡ self.now.marks }
     {
         self.marks
     }
 
+    /// The octets of the fragment.
     pub(crate) fn octets(&self) -> &[u8]
         ensures { result.now ≡ self.now.octets }
     {
         self.octets.as_slice()
     }
 
+    /// How many octets the fragment has.
     pub(crate) fn len(&self) -> usize
         ensures { result ≡ length self.now.octets }
     {

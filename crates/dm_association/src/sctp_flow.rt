@@ -17,10 +17,10 @@ use std::marker::Model;
 /// The Payload Protocol Identifier of Diameter (RFC 6733, 11.5).
 const DIAMETER: u32 = 46;
 
-/// That of Diameter over DTLS.
+/// The Payload Protocol Identifier of Diameter over DTLS (RFC 6733, 11.5).
 const DIAMETER_OVER_DTLS: u32 = 47;
 
-/// That of a user that tells none (RFC 9260, 3.3.1).
+/// The Payload Protocol Identifier of a user that tells none (RFC 9260, 3.3.1).
 const NO_IDENTIFIER: u32 = 0;
 
 /// One direction of an association: DATA chunks go in, Diameter messages come out, each of which is a user message
@@ -57,12 +57,14 @@ fn octet_sum(passed: u64, octets: usize) -> u64
     passed.saturating_add(octets as u64)
 }
 
+/// Whether a chunk with this Payload Protocol Identifier may be of Diameter: it names that, or tells none.
 fn may_be_diameter(protocol: u32) -> bool
     ensures { result ≡ is_clear_text protocol }
 {
     protocol == DIAMETER || protocol == NO_IDENTIFIER
 }
 
+/// The B and E bits of a DATA chunk, and its stream.
 fn marks_of(chunk: DataChunk<'_>) -> ChunkMarks
     ensures { result ≡ chunk_marks (data_seen chunk.entry) }
 {
@@ -73,14 +75,15 @@ fn marks_of(chunk: DataChunk<'_>) -> ChunkMarks
     }
 }
 
-/// Whether an association that is come upon begins with this chunk.
+/// Whether an association may begin with this chunk, without an INIT: it begins a user message, and is no longer than
+/// what may wait.
 fn may_begin_association(chunk: DataChunk<'_>) -> bool
     ensures { result ≡ may_begin_with (data_seen chunk.entry) }
 {
     chunk.beginning && chunk.user_data.len() <= MOST_WAITING
 }
 
-/// How many octets wait.
+/// How many octets wait for others of their messages; none where no TSN is known.
 fn waiting_in(window: &Option<TsnWindow>) -> usize
     ensures waiting { result ≡ waiting_in_flow window.now }
     ensures most { result ≤ 1048576 }
@@ -166,7 +169,7 @@ impl SctpFlow {
         }
     }
 
-    /// Where a chunk belongs.
+    /// Where a chunk belongs by its TSN; `Astray` too where it isn't known with which TSN the association begins.
     fn place_of(&self, chunk: DataChunk<'_>) -> ChunkPlace
         ensures { result ≡ place_in_flow self.now.window (data_seen chunk.entry) }
     {
@@ -176,7 +179,7 @@ impl SctpFlow {
         }
     }
 
-    /// Counts a chunk that isn't read.
+    /// Counts the octets of a chunk that isn't read: those of Diameter over DTLS as such, all others as passed over.
     fn count_unread_chunk(&mut self, chunk: DataChunk<'_>)
         ensures { self.new ≡ without_chunk (data_seen chunk.entry) self.old }
     {
@@ -187,7 +190,8 @@ impl SctpFlow {
         }
     }
 
-    /// Takes a chunk at its place.
+    /// Takes a chunk at its place, or counts it as unread where it isn't of Diameter. It answers the user message that
+    /// is whole with it, or None.
     fn take_wanted(
         &mut self,
         at: usize,
@@ -212,6 +216,7 @@ impl SctpFlow {
     }
 
     /// Leaves the association, and begins one with the chunk where that begins a message; else it is passed over.
+    /// It answers the user message that is whole with it, or None.
     fn begin_association_or_pass(
         &mut self,
         chunk: DataChunk<'_>,

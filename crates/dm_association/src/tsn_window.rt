@@ -65,7 +65,7 @@ impl TsnWindow {
         self.waiting
     }
 
-    /// Where a chunk of so many octets belongs among the TSNs from the first on.
+    /// Where a chunk of so many octets belongs whose TSN is `at` behind the first that isn't done.
     fn place_in_window(&self, at: usize, size: usize) -> ChunkPlace
         ensures { result ≡ place_within self.now at size }
     {
@@ -78,7 +78,8 @@ impl TsnWindow {
         ChunkPlace::Wanted(at)
     }
 
-    /// Where a chunk belongs whose TSN isn't among those from the first on.
+    /// Where a chunk belongs whose TSN isn't among those from the first that isn't done on: `Repeated` where it is at
+    /// most 65,536 before it, else `Astray`.
     fn place_outside_window(&self, tsn: u32) -> ChunkPlace
         ensures { result ≡ place_before self.now.next tsn }
     {
@@ -89,7 +90,7 @@ impl TsnWindow {
         }
     }
 
-    /// How far behind the first TSN a chunk may be.
+    /// Of how many TSNs, from the first that isn't done on, a chunk may be taken.
     fn most_tsns_ahead(&self) -> usize
         ensures { result ≡ reach self.now.tsns }
     {
@@ -108,7 +109,8 @@ impl TsnWindow {
         }
     }
 
-    /// So many TSNs from the first on are done.
+    /// Marks the TSNs of an extent as done, and drops those at the front that are done. Where memory is wanted nothing
+    /// changes.
     fn finish_extent(&mut self, extent: MessageExtent) -> Result<(), AllocError>
         requires { extent.first + extent.count ≤ 65536 }
         ensures finished { OnOk result (FinishesTsns self.old extent.first extent.count self.new) }
@@ -121,7 +123,7 @@ impl TsnWindow {
         Ok(())
     }
 
-    /// The TSN at a place is done, and nothing of it is kept.
+    /// Marks the TSN at a place as done; nothing of it is kept. Where memory is wanted nothing changes.
     pub(crate) fn finish_tsn(&mut self, at: usize) -> Result<(), AllocError>
         requires { at < 65536 }
         ensures passed { OnOk result (FinishesTsns self.old at 1 self.new) }
@@ -153,7 +155,8 @@ impl TsnWindow {
         Ok(())
     }
 
-    /// Takes a chunk at a place. A user message that is whole with it is handed out; else it waits.
+    /// Takes a chunk at a place, and answers the user message that is whole with it; None where the chunk waits for
+    /// others. Where memory is wanted nothing changes.
     pub(crate) fn take_chunk_at(
         &mut self,
         alloc: Global,

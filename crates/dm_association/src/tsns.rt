@@ -12,7 +12,7 @@ use std::alloc::{AllocError, Global};
 use std::collections::VecDeque;
 use std::mem;
 
-/// What is told of the fragment at a place, where one waits there.
+/// The B and E bits and the stream of the fragment that waits at a place; None where none waits there.
 pub(crate) fn marks_at(tsns: &VecDeque<TsnState>, at: usize) -> Option<ChunkMarks>
     ensures { result ≡ held_marks (tsn_at tsns.now.items at) }
 {
@@ -33,7 +33,7 @@ pub(crate) fn is_missing_at(tsns: &VecDeque<TsnState>, at: usize) -> bool
     }
 }
 
-/// The octets that wait at a place.
+/// The octets of the fragment that waits at a place; none where none waits there.
 fn octets_at(tsns: &VecDeque<TsnState>, at: usize) -> &[u8]
     ensures { result.now ≡ slot_octets (tsn_at tsns.now.items at) }
 {
@@ -43,7 +43,7 @@ fn octets_at(tsns: &VecDeque<TsnState>, at: usize) -> &[u8]
     }
 }
 
-/// Appends the octets that wait at a place, or those of the chunk that belongs there.
+/// Appends the octets that wait at the place `index`; at `place`, those of the chunk that belongs there.
 fn push_chunk_octets(
     message: &mut Vec<u8>,
     tsns: &VecDeque<TsnState>,
@@ -102,7 +102,7 @@ pub(crate) fn put_fragment(tsns: &mut VecDeque<TsnState>, at: usize, fragment: F
     drop(mem::replace(&mut tsns[at], TsnState::Held(fragment)));
 }
 
-/// The TSN at a place is done. It answers how many octets waited there.
+/// Marks the TSN at a place as done, and answers how many octets waited there.
 fn mark_done(tsns: &mut VecDeque<TsnState>, at: usize) -> usize
     requires { at < length tsns.old.items }
     ensures done { tsns.new.items ≡ slice_set tsns.old.items at TsnState.Done }
@@ -113,7 +113,7 @@ fn mark_done(tsns: &mut VecDeque<TsnState>, at: usize) -> usize
     freed
 }
 
-/// So many TSNs from the first on are done. It answers how many octets waited there.
+/// Marks the TSNs of an extent as done, and answers how many octets waited there in all.
 pub(crate) fn mark_extent_done(tsns: &mut VecDeque<TsnState>, extent: MessageExtent) -> usize
     requires there { extent.first + extent.count ≤ length tsns.old.items }
     requires most { waiting_octets tsns.old.items ≤ 1048576 }
@@ -127,6 +127,7 @@ pub(crate) fn mark_extent_done(tsns: &mut VecDeque<TsnState>, extent: MessageExt
     freed
 }
 
+/// Whether the first TSN is done.
 fn is_front_done(tsns: &VecDeque<TsnState>) -> bool
     ensures { result ≡ is_tsn_done (tsn_at tsns.now.items 0) }
 {
@@ -136,7 +137,7 @@ fn is_front_done(tsns: &VecDeque<TsnState>) -> bool
     }
 }
 
-/// Those in front that are done are no more kept. It answers the first TSN behind them.
+/// Drops the TSNs at the front that are done, the first of which is `from`, and answers the first TSN behind them.
 pub(crate) fn drop_done_tsns(tsns: &mut VecDeque<TsnState>, from: u32) -> u32
     ensures passes { PassesDone (record { next = from; tsns = tsns.old.items })
         (record { next = result; tsns = tsns.new.items }) }

@@ -1,8 +1,8 @@
 -- Packets that change nothing.
 use Rattle.std.proofs.Common.{◌≡◌, ◌≢◌, inl, inr, ℕ, Bool, true, false, Some, refl, sym, ◌∙◌, ap}
 use Rattle.std.proofs.lemmas.Bool.{ne_eqb}
-use Rattle.dm_associations.specs.declared.front.Front.{Front}
-use Rattle.dm_associations.specs.declared.front.Front.TheVariants.{Begins, Answers, Ends, Carries}
+use Rattle.dm_associations.specs.declared.front_chunk.Front.{Front}
+use Rattle.dm_associations.specs.declared.front_chunk.Front.TheVariants.{Begins, Answers, Ends, Carries}
 use Rattle.dm_associations.specs.Associations.{BothWays, HearsFront, is_own_packet, TakesCarried}
 use Rattle.dm_associations.specs.Fronts.{HasFront}
 use Rattle.dm_associations.specs.Laws.{ForeignPacketsChangeNothing, EndedUntilInit}

@@ -3,8 +3,8 @@ use Rattle.std.specs.Prelude.{◌≡◌, ◌⊎◌, ℕ, ◌+◌, ◌-◌, ◌^�
 use Rattle.std.specs.Prelude.{Option, None, Some, is_none, if◌then◌else◌}
 use Rattle.dm_association.specs.declared.front_chunk.Init.{Init}
 use Rattle.dm_association.specs.SctpFlows.{begun_at_tsn, association_left}
-use Rattle.dm_associations.specs.declared.front.Front.{Front}
-use Rattle.dm_associations.specs.declared.front.Front.TheVariants.{Begins, Answers, Ends, Carries}
+use Rattle.dm_associations.specs.declared.front_chunk.Front.{Front}
+use Rattle.dm_associations.specs.declared.front_chunk.Front.TheVariants.{Begins, Answers, Ends, Carries}
 use Rattle.dm_associations.specs.Fronts.{HasFront}
 use Rattle.dm_associations.specs.Ways.{SctpWayState, new_way, way_octets, WayTakes, WayLeaves}
 use Rattle.dm_connections.specs.declared.ends.Ends as both

@@ -2,8 +2,8 @@
 use Rattle.std.specs.Prelude.{◌≡◌, true, false, List, ℕ}
 use Rattle.dm_association.specs.declared.front_chunk.Init.{Init}
 use Rattle.dm_association.specs.FrontChunks.{SaysInit, EndsAssociation}
-use Rattle.dm_associations.specs.declared.front.Front.{Front}
-use Rattle.dm_associations.specs.declared.front.Front.TheVariants.{Begins, Answers, Ends, Carries}
+use Rattle.dm_associations.specs.declared.front_chunk.Front.{Front}
+use Rattle.dm_associations.specs.declared.front_chunk.Front.TheVariants.{Begins, Answers, Ends, Carries}
 use Rattle.dm_flows.specs.Sctps.{has_flag}
 
 -- an INIT, an INIT ACK, an ABORT or a SHUTDOWN COMPLETE, of which the T bit is the lowest (3.3.7 and 3.3.13), or

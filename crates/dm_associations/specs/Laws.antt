@@ -2,7 +2,7 @@
 use Rattle.std.specs.Prelude.{◌≡◌, ◌≢◌, ℕ, true, Some}
 use Rattle.dm_association.specs.declared.front_chunk.Init.{Init}
 use Rattle.dm_association.specs.FrontChunks.{SaysInit}
-use Rattle.dm_associations.specs.declared.front.Front.TheVariants.{Carries}
+use Rattle.dm_associations.specs.declared.front_chunk.Front.TheVariants.{Carries}
 use Rattle.dm_associations.specs.Associations.{BothWays, HearsPacket}
 use Rattle.dm_associations.specs.Fronts.{HasFront}
 use Rattle.dm_flows.specs.Sctps.{SeenSctp}

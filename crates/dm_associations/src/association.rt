@@ -5,7 +5,7 @@ ghost use Rattle.dm_associations.specs.Associations.{TakesPacket, LeavesAssociat
 ghost use Rattle.dm_associations.specs.Ways.{HandsReady, HandsNoneReady};
 ghost use Rattle.dm_flows.specs.Sctps.{sctp_seen};
 
-use crate::hearing::take_packet;
+use crate::packet_effects::take_packet;
 use crate::way::SctpWay;
 use dm_flows::{Endpoint, SctpPacket};
 use std::alloc::{AllocError, Global};

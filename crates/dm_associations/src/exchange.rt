@@ -9,10 +9,11 @@ use dm_flows::{DataChunk, DataChunks, begins_with_exchange};
 /// The Payload Protocol Identifier of Diameter (RFC 6733, 11.5).
 const DIAMETER: u32 = 46;
 
-/// That of a user that tells none (RFC 9260, 3.3.1).
+/// The Payload Protocol Identifier of a user that tells none (RFC 9260, 3.3.1).
 const NO_IDENTIFIER: u32 = 0;
 
-/// Whether a user message begins with the chunk, and that with the header of a Capabilities-Exchange-Request.
+/// Whether the chunk is of Diameter or tells no protocol, and begins a user message, which begins with the header of a
+/// Capabilities-Exchange-Request.
 fn chunk_begins_exchange(chunk: DataChunk<'_>) -> bool
     ensures { IsTrue result ↔ ChunkBeginsExchange (data_seen chunk.entry) }
 {

@@ -2,14 +2,14 @@
 #![tactic(auto)]
 
 mod association;
+mod association_table;
 mod exchange;
-mod front;
-mod hearing;
-mod held;
+mod front_chunk;
 pub mod laws;
 mod message;
+mod packet_effects;
 mod way;
 
 pub use association::Association;
-pub use held::Associations;
+pub use association_table::Associations;
 pub use way::SctpWay;

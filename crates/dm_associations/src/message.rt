@@ -18,12 +18,14 @@ impl Model for WholeMessage {
 }
 
 impl WholeMessage {
+    /// A whole message of these octets.
     pub(crate) fn new(octets: Vec<u8>) -> WholeMessage
         ensures { result ≡ octets.items }
     {
         WholeMessage { octets }
     }
 
+    /// The octets of the message.
     pub(crate) fn into_octets(self) -> Vec<u8>
         ensures { result.items ≡ self }
     {

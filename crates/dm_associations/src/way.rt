@@ -47,31 +47,36 @@ impl SctpWay {
         }
     }
 
+    /// The Verification Tag of the packets of this direction; None where it isn't known.
     pub(crate) fn tag(&self) -> Option<u32>
         ensures { result ≡ self.now.tag }
     {
         self.tag
     }
 
+    /// Sets the Verification Tag of this direction, or forgets it.
     pub(crate) fn set_tag(&mut self, tag: Option<u32>)
         ensures { self.new ≡ record self.old { tag = tag } }
     {
         self.tag = tag;
     }
 
+    /// How many octets were passed over, up to 2^64 - 1.
     pub(crate) fn passed(&self) -> u64
         ensures { result ≡ self.now.flow.passed }
     {
         self.flow.passed()
     }
 
+    /// How many octets of Diameter over DTLS came, up to 2^64 - 1.
     pub(crate) fn secured(&self) -> u64
         ensures { result ≡ self.now.flow.secured }
     {
         self.flow.secured()
     }
 
-    /// How many octets are held, up to 2^64 - 1.
+    /// How many octets are held, up to 2^64 - 1: those that wait for others of their messages, and those of whole
+    /// messages that weren't handed out.
     pub(crate) fn held(&self) -> u64
         ensures { result ≡ min (way_octets self.now) (2 ^ 64 - 1) }
     {
@@ -83,14 +88,14 @@ impl SctpWay {
         }
     }
 
-    /// An association begins, and this is its Initial TSN in this direction.
+    /// Begins an association with this Initial TSN in this direction; what waits is passed over.
     pub(crate) fn begin(&mut self, initial_tsn: u32)
         ensures { self.new ≡ record self.old { flow = begun_at_tsn self.old.flow initial_tsn } }
     {
         self.flow.begin(initial_tsn);
     }
 
-    /// The association ended, or another one takes its place.
+    /// Ends the association in this direction; what waits is passed over.
     pub(crate) fn end(&mut self)
         ensures { self.new ≡ record self.old { flow = association_left self.old.flow } }
     {
@@ -126,7 +131,7 @@ impl SctpWay {
         Ok(())
     }
 
-    /// Hands out the next message.
+    /// Hands out the next whole message; None where none is whole.
     pub(crate) fn next(&mut self) -> Option<Vec<u8>>
         ensures message { IfSome result (λ message. HandsReady self.old message.items self.new) }
         ensures none { IfNone result (HandsNoneReady self.old self.new) }

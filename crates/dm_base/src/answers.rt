@@ -12,7 +12,7 @@ use crate::Node;
 use crate::codes::RESULT_CODE;
 use crate::headers::header_of_answer;
 use crate::laws::built_is_spelled;
-use crate::parts::{
+use crate::sent_avps::{
     avp_count_bound, push_capabilities, push_failed_avp, push_origin, push_origin_state_id,
     state_id_in_answer, unsigned32_avp,
 };

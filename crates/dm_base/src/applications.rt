@@ -33,7 +33,7 @@ pub(crate) fn sorted_ids<'a>(space: &'a mut [u32; MAX_IDS], ids: &[u32]) -> &'a 
     sorted
 }
 
-/// Whether the id is among own ids that rise, or a relay's.
+/// Whether the id is among the node's own ids, each list of which rises, or is a relay's.
 pub(crate) fn is_own_or_relay_id(auth: &[u32], acct: &[u32], specific: &[u32], id: u32) -> bool
     requires auth { IsNonDecreasing auth.now }
     requires acct { IsNonDecreasing acct.now }
@@ -43,7 +43,7 @@ pub(crate) fn is_own_or_relay_id(auth: &[u32], acct: &[u32], specific: &[u32], i
     id == RELAY || contains_id(auth, id) || contains_id(acct, id) || contains_id(specific, id)
 }
 
-/// Whether some id is among own ids that rise, or a relay's.
+/// Whether one of their ids is among the node's own ids, each list of which rises, or is a relay's.
 fn has_own_or_relay_id(auth: &[u32], acct: &[u32], specific: &[u32], theirs: &[u32]) -> bool
     requires auth { IsNonDecreasing auth.now }
     requires acct { IsNonDecreasing acct.now }
@@ -90,7 +90,7 @@ fn has_common_id(node: &Node, theirs: &[u32]) -> bool
 }
 
 /// Whether some Application-ID is on both sides, or one side is a relay (RFC 6733, 5.3). It never answers want of
-/// memory, and time by the number of ids.
+/// memory, and takes time by the number of ids.
 pub fn common(caps: &Caps, node: &Node) -> bool
     ensures { result ≡ is_common caps.now node.now }
 {

@@ -13,10 +13,10 @@ use crate::Node;
 use crate::applications::{is_own_or_relay_id, is_relay, sorted_ids, vendor_application_ids};
 use crate::codes::NO_INBAND_SECURITY;
 use crate::limits::MAX_IDS;
-use crate::reading::{is_vendor_specific, plain_application_id, security_id};
+use crate::received_avps::{is_vendor_specific, plain_application_id, security_id};
 use dm_wire::{AvpRef, AvpsRef, spells_avps};
 
-/// Whether the id that an Auth-Application-Id or Acct-Application-Id tells is an own one.
+/// Whether the AVP is an Auth-Application-Id or Acct-Application-Id whose id is among the own ones, or is a relay's.
 fn plain_avp_tells_own_id(auth: &[u32], acct: &[u32], specific: &[u32], avp: AvpRef<'_>) -> bool
     requires auth { IsNonDecreasing auth.now }
     requires acct { IsNonDecreasing acct.now }
@@ -29,7 +29,7 @@ fn plain_avp_tells_own_id(auth: &[u32], acct: &[u32], specific: &[u32], avp: Avp
     }
 }
 
-/// Whether an id that the AVPs of a Vendor-Specific-Application-Id tell is an own one.
+/// Whether an id that the AVPs of a Vendor-Specific-Application-Id tell is among the own ones, or is a relay's.
 fn members_tell_own_id(auth: &[u32], acct: &[u32], specific: &[u32], avps: AvpsRef<'_>) -> bool
     requires auth { IsNonDecreasing auth.now }
     requires acct { IsNonDecreasing acct.now }
@@ -47,7 +47,7 @@ fn members_tell_own_id(auth: &[u32], acct: &[u32], specific: &[u32], avps: AvpsR
     false
 }
 
-/// Whether an id that an AVP tells is an own one.
+/// Whether an id of an application that the AVP tells is among the own ones, or is a relay's.
 #[tactic(auto, using(crate::proofs::Ids::none_met, crate::proofs::Ids::some_met))]
 fn avp_tells_own_id(auth: &[u32], acct: &[u32], specific: &[u32], avp: AvpRef<'_>) -> bool
     requires auth { IsNonDecreasing auth.now }
@@ -64,7 +64,7 @@ fn avp_tells_own_id(auth: &[u32], acct: &[u32], specific: &[u32], avp: AvpRef<'_
     members_tell_own_id(auth, acct, specific, AvpsRef::Spelled(avp.bytes))
 }
 
-/// Whether an id that AVPs tell is an own one.
+/// Whether an id of an application that the AVPs tell is among the own ones, or is a relay's.
 fn avps_tell_own_id(auth: &[u32], acct: &[u32], specific: &[u32], avps: AvpsRef<'_>) -> bool
     requires auth { IsNonDecreasing auth.now }
     requires acct { IsNonDecreasing acct.now }
@@ -118,7 +118,7 @@ impl CapsRef<'_> {
     ghost use Rattle.dm_base.specs.Shown.{ShowsCaps};
 
     /// Whether some Application-ID is on both sides, or one side is a relay (RFC 6733, 5.3). It never answers want of
-    /// memory, and time by the number of octets.
+    /// memory, and takes time by the number of octets.
     pub fn common(&self, node: &Node) -> bool
         ensures { (caps : Caps) → ShowsCaps self.now caps → result ≡ is_common caps node.now }
     {

@@ -33,7 +33,7 @@ pub struct Node {
     pub ghost fit_acct: { are_ids acct ≡ true },
 }
 
-/// Why there is no node of these parts.
+/// Why there is no node of these parts; None where there is one.
 fn fault_of_parts(
     host: &[u8],
     realm: &[u8],

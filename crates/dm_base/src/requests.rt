@@ -8,7 +8,7 @@ ghost use Rattle.dm_base.specs.Built.{cause_number, own_caps, built_cer, built_d
 use crate::codes::{CAPABILITIES_EXCHANGE, DEVICE_WATCHDOG, DISCONNECT_CAUSE, DISCONNECT_PEER};
 use crate::headers::header_of_request;
 use crate::laws::built_is_spelled;
-use crate::parts::{
+use crate::sent_avps::{
     avp_count_bound, own_state_id, push_capabilities, push_origin, push_origin_state_id,
     unsigned32_avp,
 };

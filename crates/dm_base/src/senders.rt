@@ -12,17 +12,17 @@ use crate::codes::{
     CAPABILITIES_EXCHANGE, DISCONNECT_CAUSE, DISCONNECT_PEER, FIRMWARE_REVISION, ORIGIN_HOST,
     ORIGIN_REALM, ORIGIN_STATE_ID, PRODUCT_NAME, SUPPORTED_VENDOR_ID, VENDOR_ID,
 };
-use crate::reading::{
+use crate::message_kind_ref::spells_members;
+use crate::received_avps::{
     first_data_of_code, has_code_and_no_vendor, number_of_four_octets, push_id_if_some,
     read_application_ids,
 };
-use crate::views::spells_members;
 use crate::{IdList, SenderRef};
 use dm_dict::NoMemory;
 use dm_wire::{AvpRef, AvpsRef, MessageRef};
 use std::alloc::Global;
 
-/// The number of an AVP of this code.
+/// The number of the AVP, where it has this code, no vendor and four octets; else None.
 fn number_if_of_code(avp: AvpRef<'_>, code: u32) -> Option<u32>
     ensures { result ≡ plain_number code (avp_of avp.entry) }
 {
@@ -33,7 +33,7 @@ fn number_if_of_code(avp: AvpRef<'_>, code: u32) -> Option<u32>
     }
 }
 
-/// The number of the first AVP of this code.
+/// The number of the first AVP of this code; None where there is none, or it has not four octets.
 fn first_number_of_code(avps: AvpsRef<'_>, code: u32) -> Option<u32>
     ensures { (l : List Avp) → Lists avps.entry l → result ≡ number_told code l }
 {

@@ -11,7 +11,7 @@ use crate::Node;
 use crate::codes::{ORIGIN_HOST, ORIGIN_REALM, ORIGIN_STATE_ID, RESULT_CODE, SUCCESS};
 use crate::headers::header_of_answer;
 use crate::laws::built_is_spelled;
-use crate::parts::{borrowed_avp, state_id_in_answer};
+use crate::sent_avps::{borrowed_avp, state_id_in_answer};
 use dm_wire::codes::limits::HEADER_LEN;
 use dm_wire::laws::{avp_sized, canonical_spells};
 use dm_wire::{Header, WireFault, header_octets, push_avp};

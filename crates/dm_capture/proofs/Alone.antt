@@ -5,8 +5,8 @@ use Rattle.dm_capture.specs.declared.order.Order.{Order}
 use Rattle.dm_capture.specs.declared.time.Resolution.{Resolution}
 use Rattle.dm_capture.specs.declared.interface.Interface.{Interface}
 use Rattle.dm_capture.specs.declared.pcap.PcapForm.{PcapForm}
-use Rattle.dm_capture.specs.declared.front.Layout.{Layout}
-use Rattle.dm_capture.specs.declared.front.Layout.TheVariants.{Start, Pcap, Pcapng}
+use Rattle.dm_capture.specs.declared.front_item.Layout.{Layout}
+use Rattle.dm_capture.specs.declared.front_item.Layout.TheVariants.{Start, Pcap, Pcapng}
 use Rattle.dm_capture.specs.declared.fault.FaultKind.{FaultKind}
 use Rattle.dm_capture.specs.declared.fault.FaultKind.TheVariants.{NoCapture, OtherVersion, WrongLength, RecordTooLong, LengthsDiffer, UnknownInterface, TooManyInterfaces, CutRecord, OutOfMemory}
 use Rattle.dm_capture.specs.Numbers.{ordered_number}

@@ -7,10 +7,10 @@ use Rattle.dm_capture.specs.declared.time.Resolution.{Resolution}
 use Rattle.dm_capture.specs.declared.interface.Interface.{Interface}
 use Rattle.dm_capture.specs.declared.pcap.PcapForm.{PcapForm}
 use Rattle.dm_capture.specs.declared.packet.Record.{Record}
-use Rattle.dm_capture.specs.declared.front.Layout.{Layout}
-use Rattle.dm_capture.specs.declared.front.Layout.TheVariants.{Start, Pcap, Pcapng}
-use Rattle.dm_capture.specs.declared.front.Holds.{Holds}
-use Rattle.dm_capture.specs.declared.front.Holds.TheVariants.{Form, Section, Description, PacketRecord, Other}
+use Rattle.dm_capture.specs.declared.front_item.Layout.{Layout}
+use Rattle.dm_capture.specs.declared.front_item.Layout.TheVariants.{Start, Pcap, Pcapng}
+use Rattle.dm_capture.specs.declared.front_item.Holds.{Holds}
+use Rattle.dm_capture.specs.declared.front_item.Holds.TheVariants.{Form, Section, Description, PacketRecord, Other}
 use Rattle.dm_capture.specs.declared.fault.FaultKind.{FaultKind}
 use Rattle.dm_capture.specs.declared.fault.FaultKind.TheVariants.{NoCapture, OtherVersion, WrongLength, RecordTooLong, LengthsDiffer, UnknownInterface, TooManyInterfaces, CutRecord, OutOfMemory}
 use Rattle.dm_capture.specs.Numbers.{ordered_number}

@@ -3,10 +3,10 @@ use Rattle.std.proofs.Common.{◌≡◌, ℕ, List, [], ◌∷◌, ◌++◌, len
 use Rattle.std.specs.List.{AllByRecursion, flat_map}
 use Rattle.dm_capture.specs.declared.order.Order.{Order}
 use Rattle.dm_capture.specs.declared.interface.Interface.{Interface}
-use Rattle.dm_capture.specs.declared.front.Layout.{Layout}
-use Rattle.dm_capture.specs.declared.front.Layout.TheVariants.{Start, Pcap, Pcapng}
-use Rattle.dm_capture.specs.declared.front.Holds.{Holds}
-use Rattle.dm_capture.specs.declared.front.Holds.TheVariants.{Form, Section, Description, PacketRecord, Other}
+use Rattle.dm_capture.specs.declared.front_item.Layout.{Layout}
+use Rattle.dm_capture.specs.declared.front_item.Layout.TheVariants.{Start, Pcap, Pcapng}
+use Rattle.dm_capture.specs.declared.front_item.Holds.{Holds}
+use Rattle.dm_capture.specs.declared.front_item.Holds.TheVariants.{Form, Section, Description, PacketRecord, Other}
 use Rattle.dm_capture.specs.declared.pcap.PcapForm.{PcapForm}
 use Rattle.dm_capture.specs.Packets.{Captured}
 use Rattle.dm_capture.specs.Pcap.{IsPcapRecord}

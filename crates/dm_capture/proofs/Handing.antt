@@ -1,7 +1,7 @@
 -- What a call hands out, behind items that hold no packet.
 use Rattle.std.proofs.Common.{◌≡◌, ◌≤◌, ℕ, ◌+◌, Option, None, Some, Result, Ok, Err, IfOk, IfErr, OnOk, OnErr, IsSomeAnd, List, [], ◌∷◌, ◌++◌, length, take, drop, refl, sym, ◌∙◌, ap, subst, append-nil}
-use Rattle.dm_capture.specs.declared.front.Holds.{Holds}
-use Rattle.dm_capture.specs.declared.front.Holds.TheVariants.{Form, Section, Description, PacketRecord, Other}
+use Rattle.dm_capture.specs.declared.front_item.Holds.{Holds}
+use Rattle.dm_capture.specs.declared.front_item.Holds.TheVariants.{Form, Section, Description, PacketRecord, Other}
 use Rattle.dm_capture.specs.declared.packet.Record.{Record}
 use Rattle.dm_capture.specs.declared.packet.Packet.{Packet}
 use Rattle.dm_capture.specs.declared.fault.CaptureFault.{CaptureFault}

@@ -5,9 +5,9 @@ use Rattle.dm_capture.specs.declared.order.Order.TheVariants.{Big, Little}
 use Rattle.dm_capture.specs.declared.interface.Interface.{Interface}
 use Rattle.dm_capture.specs.declared.pcap.PcapForm.{PcapForm}
 use Rattle.dm_capture.specs.declared.packet.Record.{Record}
-use Rattle.dm_capture.specs.declared.front.Layout.{Layout}
-use Rattle.dm_capture.specs.declared.front.Layout.TheVariants.{Start, Pcap, Pcapng}
-use Rattle.dm_capture.specs.declared.front.Holds.{Holds}
+use Rattle.dm_capture.specs.declared.front_item.Layout.{Layout}
+use Rattle.dm_capture.specs.declared.front_item.Layout.TheVariants.{Start, Pcap, Pcapng}
+use Rattle.dm_capture.specs.declared.front_item.Holds.{Holds}
 use Rattle.dm_capture.specs.Numbers.{ordered_number}
 use Rattle.dm_capture.specs.Blocks.{IsBlock, IsBlockPart}
 use Rattle.dm_capture.specs.Pcap.{IsRecord, IsRecordPart}

@@ -1,7 +1,7 @@
 -- A capture is read in one way.
 use Rattle.std.proofs.Common.{◌≡◌, ℕ, inl, inr, List, [], ◌∷◌, ◌++◌, length, drop, refl, sym, ◌∙◌, ap, subst}
 use Rattle.std.proofs.lemmas.List.{drop_at}
-use Rattle.dm_capture.specs.declared.front.Holds.{Holds}
+use Rattle.dm_capture.specs.declared.front_item.Holds.{Holds}
 use Rattle.dm_capture.specs.Items.{IsItem, IsPart, HasFrontFault}
 use Rattle.dm_capture.specs.Captures.{Progress, HeldItem, ItemsLead, passed}
 use Rattle.dm_capture.specs.Laws.{IsStopped}

@@ -1,7 +1,7 @@
 -- Runs of items, one after the other.
 use Rattle.std.proofs.Common.{◌≡◌, ◌≤◌, ℕ, List, [], ◌∷◌, ◌++◌, length, take, drop, sym, ◌∙◌, ap, subst, append_assoc}
 use Rattle.std.proofs.lemmas.List.{take-append-drop, length-take-le}
-use Rattle.dm_capture.specs.declared.front.Holds.{Holds}
+use Rattle.dm_capture.specs.declared.front_item.Holds.{Holds}
 use Rattle.dm_capture.specs.Items.{IsItem}
 use Rattle.dm_capture.specs.Captures.{Progress, HeldItem, ItemsLead, packets_of, packet_in, packets_after, passed}
 

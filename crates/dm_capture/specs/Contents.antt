@@ -3,8 +3,8 @@ use Rattle.std.specs.Prelude.{◌≡◌, ◌≢◌, ◌⊎◌, ℕ, ◌<◌, ◌
 use Rattle.dm_capture.specs.declared.order.Order.{Order}
 use Rattle.dm_capture.specs.declared.order.Order.TheVariants.{Big}
 use Rattle.dm_capture.specs.declared.interface.Interface.{Interface}
-use Rattle.dm_capture.specs.declared.front.Holds.{Holds}
-use Rattle.dm_capture.specs.declared.front.Holds.TheVariants.{Section, Description, PacketRecord, Other}
+use Rattle.dm_capture.specs.declared.front_item.Holds.{Holds}
+use Rattle.dm_capture.specs.declared.front_item.Holds.TheVariants.{Section, Description, PacketRecord, Other}
 use Rattle.dm_capture.specs.declared.fault.FaultKind.{FaultKind}
 use Rattle.dm_capture.specs.Numbers.{ordered_number}
 use Rattle.dm_capture.specs.Blocks.{section_type, block_type, block_size, IsBlock, IsBlockPart, HasLengthFault}

@@ -4,7 +4,7 @@ use Rattle.std.specs.List.{AllByRecursion, flat_map}
 use Rattle.dm_capture.specs.declared.order.Order.{Order}
 use Rattle.dm_capture.specs.declared.interface.Interface.{Interface}
 use Rattle.dm_capture.specs.declared.pcap.PcapForm.{PcapForm}
-use Rattle.dm_capture.specs.declared.front.Holds.TheVariants.{Section}
+use Rattle.dm_capture.specs.declared.front_item.Holds.TheVariants.{Section}
 use Rattle.dm_capture.specs.Packets.{Captured}
 use Rattle.dm_capture.specs.Pcap.{IsForm, IsPcapRecord}
 use Rattle.dm_capture.specs.Sections.{IsSection}

@@ -2,9 +2,9 @@
 use Rattle.std.specs.Prelude.{◌≡◌, ◌≢◌, ◌⊎◌, ℕ, ◌<◌, ◌≤◌, None, List, length}
 use Rattle.dm_capture.specs.declared.order.Order.TheVariants.{Big}
 use Rattle.dm_capture.specs.declared.interface.Interface.{Interface}
-use Rattle.dm_capture.specs.declared.front.Layout.{Layout}
-use Rattle.dm_capture.specs.declared.front.Layout.TheVariants.{Start, Pcap, Pcapng}
-use Rattle.dm_capture.specs.declared.front.Holds.{Holds}
+use Rattle.dm_capture.specs.declared.front_item.Layout.{Layout}
+use Rattle.dm_capture.specs.declared.front_item.Layout.TheVariants.{Start, Pcap, Pcapng}
+use Rattle.dm_capture.specs.declared.front_item.Holds.{Holds}
 use Rattle.dm_capture.specs.declared.fault.FaultKind.{FaultKind}
 use Rattle.dm_capture.specs.declared.fault.FaultKind.TheVariants.{NoCapture}
 use Rattle.dm_capture.specs.Numbers.{ordered_number}

@@ -1,8 +1,8 @@
 -- A capture is read in one way, whatever pieces it comes in.
 use Rattle.std.specs.Prelude.{◌⊎◌, ◌≡◌, ℕ, List, [], ◌++◌}
-use Rattle.dm_capture.specs.declared.front.Layout.{Layout}
+use Rattle.dm_capture.specs.declared.front_item.Layout.{Layout}
 use Rattle.dm_capture.specs.declared.interface.Interface.{Interface}
-use Rattle.dm_capture.specs.declared.front.Holds.{Holds}
+use Rattle.dm_capture.specs.declared.front_item.Holds.{Holds}
 use Rattle.dm_capture.specs.declared.fault.FaultKind.{FaultKind}
 use Rattle.dm_capture.specs.Packets.{Captured}
 use Rattle.dm_capture.specs.Items.{IsItem, IsPart, HasFrontFault}

@@ -7,8 +7,8 @@ use Rattle.dm_capture.specs.declared.time.Resolution.{Resolution}
 use Rattle.dm_capture.specs.declared.time.Resolution.TheVariants.{Decimal}
 use Rattle.dm_capture.specs.declared.pcap.PcapForm.{PcapForm}
 use Rattle.dm_capture.specs.declared.packet.Record.{Record}
-use Rattle.dm_capture.specs.declared.front.Holds.{Holds}
-use Rattle.dm_capture.specs.declared.front.Holds.TheVariants.{Form, PacketRecord}
+use Rattle.dm_capture.specs.declared.front_item.Holds.{Holds}
+use Rattle.dm_capture.specs.declared.front_item.Holds.TheVariants.{Form, PacketRecord}
 use Rattle.dm_capture.specs.declared.fault.FaultKind.{FaultKind}
 use Rattle.dm_capture.specs.declared.fault.FaultKind.TheVariants.{OtherVersion, RecordTooLong}
 use Rattle.dm_capture.specs.Numbers.{ordered_number}

@@ -3,8 +3,8 @@ use Rattle.std.specs.Prelude.{◌≡◌, ◌≢◌, ◌⊎◌, ℕ, ◌<◌, ◌
 use Rattle.std.specs.Prelude.{None, Some, if◌then◌else◌, List, length, take, drop}
 use Rattle.dm_capture.specs.declared.order.Order.{Order}
 use Rattle.dm_capture.specs.declared.order.Order.TheVariants.{Big, Little}
-use Rattle.dm_capture.specs.declared.front.Holds.{Holds}
-use Rattle.dm_capture.specs.declared.front.Holds.TheVariants.{Section}
+use Rattle.dm_capture.specs.declared.front_item.Holds.{Holds}
+use Rattle.dm_capture.specs.declared.front_item.Holds.TheVariants.{Section}
 use Rattle.dm_capture.specs.declared.fault.FaultKind.{FaultKind}
 use Rattle.dm_capture.specs.declared.fault.FaultKind.TheVariants.{NoCapture, OtherVersion, WrongLength}
 use Rattle.dm_capture.specs.Numbers.{ordered_number}

@@ -1,7 +1,7 @@
 -- A capture that a reader gives.
 use Rattle.std.specs.Prelude.{◌≡◌, ◌≢◌, ◌⊎◌, ℕ, Bool, true, Option, None, Some, OnSome, Result, Ok, Err, List, [], ◌∷◌}
 use Rattle.std.specs.Io.KnownBytes.{Keeps, Consumes, IsAtEnd}
-use Rattle.dm_capture.specs.declared.front.Layout.TheVariants.{Start}
+use Rattle.dm_capture.specs.declared.front_item.Layout.TheVariants.{Start}
 use Rattle.dm_capture.specs.declared.packet.Packet.{Packet}
 use Rattle.dm_capture.specs.declared.fault.CaptureFault.{CaptureFault}
 use Rattle.dm_capture.specs.declared.fault.FaultKind.TheVariants.{OutOfMemory}

@@ -30,7 +30,8 @@ pub(crate) struct Interface {
     pub(crate) offset: u64,
 }
 
-/// What a block says that is an interface's description, in a section that describes these before it.
+/// What a block says that is an interface's description, in a section that describes these before it, or what is wrong
+/// with it.
 pub(crate) fn read_interface(
     order: Order,
     interfaces: &[Interface],
@@ -66,7 +67,7 @@ fn resolution_said(order: Order, options: &[u8]) -> Resolution
     }
 }
 
-/// The offset that the options say: none where they don't.
+/// The offset in seconds that the options say: 0 where they don't.
 fn offset_said(order: Order, options: &[u8]) -> u64
     ensures { IsOffset order options.now result }
 {
@@ -76,7 +77,7 @@ fn offset_said(order: Order, options: &[u8]) -> u64
     }
 }
 
-/// The interface with a number, if it was described.
+/// The interface with a number, from 0; None where it wasn't described.
 pub(crate) fn interface_at(interfaces: &[Interface], number: usize) -> Option<Interface>
     ensures { result ≡ slice_get interfaces.now number }
 {

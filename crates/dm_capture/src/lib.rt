@@ -5,7 +5,7 @@
 mod block;
 mod buffer;
 mod fault;
-mod front;
+mod front_item;
 mod interface;
 pub mod laws;
 mod options;

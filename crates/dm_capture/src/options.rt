@@ -4,7 +4,7 @@ ghost use Rattle.dm_capture.specs.Options.{BlockOption, AreOptions, first_value}
 
 use crate::order::{Order, u16_at};
 
-/// The value of the first option with this code and so many octets.
+/// The value of the first option with this code and so many octets; None where there is none.
 pub(crate) fn option_value(order: Order, octets: &[u8], code: u16, size: usize) -> Option<&[u8]>
     ensures first { (options : List BlockOption) → AreOptions order octets.now options
         → MatchOption result (first_value code size options ≡ None)

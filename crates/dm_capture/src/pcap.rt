@@ -5,10 +5,10 @@ ghost use Rattle.dm_capture.specs.Blocks.{section_type};
 ghost use Rattle.dm_capture.specs.Pcap.{magic_of, IsPcapRecord, HasRecordFault, IsRecordPart};
 ghost use Rattle.dm_capture.specs.Pcap.{HasHeaderFault, IsHeaderPart, IsPcapHeader, pcap_record};
 ghost use Rattle.dm_capture.specs.Items.{IsItem, IsPart, HasFrontFault};
-ghost use Rattle.dm_capture.specs.declared.front.Layout.TheVariants.{Start};
+ghost use Rattle.dm_capture.specs.declared.front_item.Layout.TheVariants.{Start};
 
 use crate::fault::FaultKind;
-use crate::front::{Found, Holds};
+use crate::front_item::{Found, Holds};
 use crate::order::{Order, u16_at, u32_at};
 use crate::packet::{MOST_CAPTURED, Record};
 use crate::section::{is_section, section_at};
@@ -34,7 +34,7 @@ pub(crate) struct PcapForm {
     pub(crate) link: u16,
 }
 
-/// The header of a file, or the first section's, at its front.
+/// The header of a pcap file, or of the first section of a pcapng file, at its front; `None` where it isn't whole yet.
 pub(crate) fn file_header_at(octets: &[u8]) -> Result<Option<Found>, FaultKind>
     ensures within { IfOk result (λ found. IfSome found (λ f. (0 < f.size) × (f.size ≤ length octets.now))) }
     ensures item { IfOk result (λ found. IfSome found (λ f. IsItem Start [] (take f.size octets.now) f.holds)) }
@@ -53,7 +53,8 @@ pub(crate) fn file_header_at(octets: &[u8]) -> Result<Option<Found>, FaultKind>
     }
 }
 
-/// What the first four octets say of a pcap file, if it is one.
+/// The order of octets and the resolution that the first four octets of a pcap file tell; None where they are no pcap
+/// file's.
 fn magic_at(octets: &[u8]) -> Option<(Order, Resolution)>
     requires { 4 ≤ length octets.now }
     ensures { result ≡ magic_of octets.now }
@@ -73,7 +74,7 @@ fn magic_at(octets: &[u8]) -> Option<(Order, Resolution)>
     }
 }
 
-/// The header of a pcap file whose first octets gave its order and resolution.
+/// The header of a pcap file whose first octets gave its order and resolution; `None` where it isn't whole yet.
 fn pcap_header_at(
     order: Order,
     resolution: Resolution,
@@ -105,7 +106,7 @@ fn pcap_header_at(
     }))
 }
 
-/// The record at the front.
+/// The record of a pcap file at the front; `None` where it isn't whole yet.
 pub(crate) fn record_at(form: PcapForm, octets: &[u8]) -> Result<Option<Found>, FaultKind>
     ensures within { IfOk result (λ found. IfSome found (λ f. (0 < f.size) × (f.size ≤ length octets.now))) }
     ensures item { IfOk result (λ found. IfSome found (λ f. IsPcapRecord form (take f.size octets.now) f.holds)) }
@@ -130,7 +131,7 @@ pub(crate) fn record_at(form: PcapForm, octets: &[u8]) -> Result<Option<Found>, 
     }))
 }
 
-/// What a record of so many octets says.
+/// What a record of a pcap file says in which so many octets of a packet stand.
 fn record_fields(form: PcapForm, captured: usize, octets: &[u8]) -> Record
     requires { 16 ≤ length octets.now }
     ensures { result ≡ pcap_record form captured octets.now }

@@ -2,8 +2,8 @@
 ghost use Rattle.std.specs.Prelude.{◌≡◌, ◌≢◌, ◌<◌, ◌≤◌, ◌+◌, ◌++◌, [], length};
 ghost use Rattle.std.specs.Prelude.{take, drop, None, Some, Err, IfSome, IfNone};
 ghost use Rattle.std.specs.Prelude.{IfErr, IfOk, IsSomeAnd, OnOk, OnErr};
-ghost use Rattle.dm_capture.specs.declared.front.Holds.TheVariants.{PacketRecord};
-ghost use Rattle.dm_capture.specs.declared.front.Layout.TheVariants.{Start};
+ghost use Rattle.dm_capture.specs.declared.front_item.Holds.TheVariants.{PacketRecord};
+ghost use Rattle.dm_capture.specs.declared.front_item.Layout.TheVariants.{Start};
 ghost use Rattle.dm_capture.specs.Captures.{Progress, new_progress, passed, Hands};
 ghost use Rattle.dm_capture.specs.Captures.{EndsWith, capped};
 ghost use Rattle.dm_capture.specs.Items.{IsItem, IsPart, HasFrontFault};
@@ -11,7 +11,7 @@ ghost use Rattle.dm_capture.specs.Packets.{captured_of, packet_of};
 
 use crate::buffer::drop_taken;
 use crate::fault::{CaptureFault, FaultKind};
-use crate::front::{Found, Holds, Layout, item_at_front};
+use crate::front_item::{Found, Holds, Layout, item_at_front};
 use crate::interface::Interface;
 use crate::packet::{Packet, Record, packet_from};
 use std::alloc::{AllocError, Global};
@@ -100,7 +100,7 @@ impl CaptureReader {
         }
     }
 
-    /// What stands at the front of the octets that are left.
+    /// The whole header, record or block at the front of the octets that are left; `None` where it isn't whole yet.
     fn front_item(&self) -> Result<Option<Found>, FaultKind>
         ensures within { IfOk result (λ found. IfSome found (λ f. (0 < f.size) × (f.size ≤ length self.now.octets))) }
         ensures item { IfOk result (λ found. IfSome found (λ f.
@@ -121,14 +121,14 @@ impl CaptureReader {
         fault
     }
 
-    /// The fault that is kept.
+    /// The fault that is kept; None where none is.
     pub(crate) fn kept_fault(&self) -> Option<CaptureFault>
         ensures { result ≡ self.now.fault }
     {
         self.fault
     }
 
-    /// A fault of what stands at the front.
+    /// A fault of this kind, with the place of what stands at the front.
     pub(crate) fn fault_at_front(&self, kind: FaultKind) -> CaptureFault
         ensures { result ≡ record { offset = self.now.offset; kind = kind } }
     {
@@ -138,7 +138,7 @@ impl CaptureReader {
         }
     }
 
-    /// Passes what stands at the front, and notes what it says of the file.
+    /// Passes what stands at the front, and notes what it says of the file. Where memory is wanted nothing changes.
     fn pass_item(&mut self, size: usize, holds: Holds) -> Result<(), CaptureFault>
         requires { size ≤ length self.old.octets }
         ensures passed { OnOk result (self.new ≡ passed self.old size holds (drop size self.old.octets)) }
@@ -165,7 +165,7 @@ impl CaptureReader {
         Ok(())
     }
 
-    /// Hands out the packet of the record at the front.
+    /// Hands out the packet of the record at the front. Where memory is wanted nothing changes.
     fn take_packet(&mut self, size: usize, stands: Record) -> Result<Option<Packet>, CaptureFault>
         requires size { size ≤ length self.old.octets }
         requires within { stands.start + stands.captured ≤ size }

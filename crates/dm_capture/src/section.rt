@@ -8,7 +8,7 @@ ghost use Rattle.dm_capture.specs.Contents.{IsSectionItem, IsSectionItemPart, Ha
 
 use crate::block::whole_block_size;
 use crate::fault::FaultKind;
-use crate::front::{Found, Holds};
+use crate::front_item::{Found, Holds};
 use crate::interface::{Interface, read_interface};
 use crate::order::{Order, u16_at, u32_at};
 use crate::packet_block::{simple_packet, timed_packet};
@@ -38,7 +38,7 @@ pub(crate) fn is_section(octets: &[u8]) -> bool
     u32_at(Order::Big, octets, 0) == SECTION
 }
 
-/// The order of a section's octets.
+/// The order of octets that a section's header names; None where it names none.
 fn order_of_section(octets: &[u8]) -> Option<Order>
     requires { 12 ≤ length octets.now }
     ensures { result ≡ section_order octets.now }
@@ -52,7 +52,7 @@ fn order_of_section(octets: &[u8]) -> Option<Order>
     }
 }
 
-/// The section's header at the front, which begins with a section's type.
+/// The section's header at the front, which begins with a section's type; `None` where it isn't whole yet.
 pub(crate) fn section_at(octets: &[u8]) -> Result<Option<Found>, FaultKind>
     requires least { 4 ≤ length octets.now }
     requires section { ordered_number Order.Big 4 octets.now ≡ section_type }
@@ -70,7 +70,7 @@ pub(crate) fn section_at(octets: &[u8]) -> Result<Option<Found>, FaultKind>
     }
 }
 
-/// The section's header at the front, whose order is known.
+/// The section's header at the front, whose order is known; `None` where it isn't whole yet.
 fn section_in_order(order: Order, octets: &[u8]) -> Result<Option<Found>, FaultKind>
     requires least { 12 ≤ length octets.now }
     requires section { ordered_number Order.Big 4 octets.now ≡ section_type }
@@ -98,7 +98,7 @@ fn section_in_order(order: Order, octets: &[u8]) -> Result<Option<Found>, FaultK
     }
 }
 
-/// The block at the front of what is left in a section.
+/// The block at the front of what is left in a section, or the header of the next one; `None` where it isn't whole yet.
 pub(crate) fn block_at(
     order: Order,
     interfaces: &[Interface],
@@ -119,7 +119,7 @@ pub(crate) fn block_at(
     block_within_section(order, interfaces, octets)
 }
 
-/// The block at the front of what is left in a section, which is no section's header.
+/// The block at the front of what is left in a section, which is no section's header; `None` where it isn't whole yet.
 fn block_within_section(
     order: Order,
     interfaces: &[Interface],
@@ -143,7 +143,7 @@ fn block_within_section(
     }
 }
 
-/// What a whole block says.
+/// What a whole block within a section says, or what is wrong with it.
 fn read_block(order: Order, interfaces: &[Interface], block: &[u8]) -> Result<Holds, FaultKind>
     requires { 12 ≤ length block.now }
     ensures holds { IfOk result (BlockHolds order interfaces.now block.now) }

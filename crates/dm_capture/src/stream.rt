@@ -59,7 +59,7 @@ fn read_packet<R: BufRead>(
     Err(StreamFault::Unreadable)
 }
 
-/// What is answered where the file ends.
+/// What is answered where the file ends: None where it ends whole, else what is wrong.
 fn answer_at_end(capture: &CaptureReader) -> Result<Option<Packet>, StreamFault>
     ensures { EndsAs capture.now result }
 {
@@ -69,7 +69,7 @@ fn answer_at_end(capture: &CaptureReader) -> Result<Option<Packet>, StreamFault>
     }
 }
 
-/// Feeds what the reader has at hand. True where nothing is left of it.
+/// Feeds the capture what the reader has at hand. True where the reader has nothing left.
 fn feed_piece<R: BufRead>(reader: &mut R, capture: &mut CaptureReader) -> Result<bool, StreamFault>
     ensures fed { IfOk result (FeedsPiece (R.remaining reader.old) (R.remaining reader.new)
         capture.old capture.new) }
@@ -88,7 +88,7 @@ fn feed_piece<R: BufRead>(reader: &mut R, capture: &mut CaptureReader) -> Result
     Ok(size == 0)
 }
 
-/// What is answered where a read fails: false where it was interrupted, so that it is made again.
+/// What is answered where a read fails: false where it was interrupted, so that it is made again, else the fault.
 fn answer_read_error(capture: &CaptureReader, error: Error) -> Result<bool, StreamFault>
     ensures again { IfOk result (λ done. done ≡ false) }
     ensures none { IfErr result (IsNoneRead capture.now) }

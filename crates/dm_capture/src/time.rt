@@ -33,7 +33,7 @@ pub(crate) fn resolution_from_octet(octet: u8) -> Resolution
     }
 }
 
-/// How many units a second has, where they are below 2^64.
+/// How many units a second has; None where they are 2^64 or more.
 fn units_in_second(resolution: Resolution) -> Option<u64>
     ensures { SomeIff result (units_per_second resolution < 2 ^ 64) (units_per_second resolution) }
 {

@@ -8,9 +8,9 @@ ghost use Rattle.dm_connections.specs.Held.{ConnectionGoesOn, OneWayGoesOn, HasP
 ghost use Rattle.dm_connections.specs.Held.{SentGoesIn};
 
 use crate::choice::{Choice, is_wanted};
-use crate::counted::{changed_sum, next_message_counted, take_sent_counted};
 use crate::ends::Ends;
 use crate::limits::Limits;
+use crate::octet_sum::{changed_sum, next_message_counted, take_sent_counted};
 use crate::two_way::{Takes, TwoWay};
 use dm_flows::{Connection, Endpoint};
 use lru::LruCache;
@@ -51,7 +51,7 @@ impl<C: TwoWay> Model for Connections<C> {
 }
 
 #[tactic(auto, using(crate::proofs::Sums::last_cut, crate::proofs::Sums::no_last))]
-/// Takes the last one out.
+/// Takes out the last of the connections, which was idle longest, with its ends; None where none is held.
 fn pop_idlest<C: TwoWay>(held: &mut LruCache<Ends, C, RandomState>) -> Option<(Ends, C)>
     ensures last { IfSome result (λ entry. held.old.entries ≡ held.new.entries ++ entry ∷ []) }
     ensures none { IfNone result ((held.old.entries ≡ []) × (held.new.entries ≡ [])) }
@@ -108,8 +108,8 @@ impl<C: TwoWay> Connections<C> {
         self.held.contains(&ends)
     }
 
-    /// The ends of the connection of two, if it is held: in that order, or else in the other one. It never answers want
-    /// of memory.
+    /// The ends of the connection of two, if it is held: in that order, or else in the other one; None where it isn't.
+    /// It never answers want of memory.
     pub fn find(&self, source: Endpoint, destination: Endpoint) -> Option<Ends>
         ensures { result ≡ found_ends self.now.held source destination }
     {
@@ -145,7 +145,7 @@ impl<C: TwoWay> Connections<C> {
         }
     }
 
-    /// Holds a new connection of these ends, of which none is held.
+    /// Holds a new connection of these ends, of which none is held. Where memory is wanted nothing changes.
     fn hold_new(&mut self, ends: Ends) -> Result<(), AllocError>
         requires { connection_of self.old.held ends ≡ None }
         ensures put { OnOk result
@@ -233,7 +233,8 @@ impl<C: TwoWay> Connections<C> {
         }
     }
 
-    /// The ends of the connection of what is sent, which is held from here on where it is wanted; else None.
+    /// The ends of the connection of what is sent: of the one that is held, or of a new one where it is wanted, which
+    /// is held from here on; else None. Where memory is wanted nothing changes.
     fn hold_if_wanted<S: Copy>(
         &mut self,
         choice: Choice<'_>,

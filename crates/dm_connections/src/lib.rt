@@ -4,9 +4,9 @@
 
 mod choice;
 mod connections;
-mod counted;
 mod ends;
 mod limits;
+mod octet_sum;
 mod tcp;
 mod two_way;
 

@@ -2,7 +2,7 @@
 use Rattle.std.proofs.Common.{◌≡◌, List, [], ◌∷◌, map, refl, ap, ◌∙◌}
 use Rattle.dm_wire.specs.declared.message.Message.{Message}
 use Rattle.dm_tables.specs.Definitions.{Definitions}
-use Rattle.dm_dict.specs.declared.places.LocatedFault.{LocatedFault}
+use Rattle.dm_dict.specs.declared.located_fault.LocatedFault.{LocatedFault}
 use Rattle.dm_dict.specs.Listing.{fault_listed, AreFoundIn}
 use Rattle.dm_dict.specs.Located.{located_faults}
 use Rattle.dm_dict.specs.Locating.{told_at}

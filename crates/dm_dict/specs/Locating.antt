@@ -2,7 +2,7 @@
 use Rattle.std.specs.Prelude.{◌≡◌, ◌+◌, ◌≤◌, ℕ, Option, None, Some, IfSome, List, ◌++◌, map, take}
 use Rattle.dm_dict.specs.declared.path.Path.{Path}
 use Rattle.dm_dict.specs.declared.path.Step.{Step}
-use Rattle.dm_dict.specs.declared.places.LocatedFault.{LocatedFault}
+use Rattle.dm_dict.specs.declared.located_fault.LocatedFault.{LocatedFault}
 use Rattle.dm_dict.specs.declared.findings.Findings.{Findings}
 use Rattle.dm_dict.specs.Listing.{fault_listed, all_told}
 use Rattle.dm_dict.specs.Located.{Located, here}

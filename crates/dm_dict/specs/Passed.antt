@@ -1,7 +1,7 @@
 -- AVPs of a list that were judged, up to those that are left.
 use Rattle.std.specs.Prelude.{◌≡◌, ◌∷◌, ℕ, List, ◌++◌, flat_map}
 use Rattle.dm_wire.specs.declared.avp.Avp.{Avp}
-use Rattle.dm_wire.specs.declared.list.AvpsRef.{AvpsRef}
+use Rattle.dm_wire.specs.declared.avps_ref.AvpsRef.{AvpsRef}
 use Rattle.dm_wire.specs.Borrowed.{Lists}
 use Rattle.dm_wire.specs.Spelling.{SpellsList}
 use Rattle.dm_tables.specs.declared.rule.Entry.{Entry}

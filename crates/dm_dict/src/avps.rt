@@ -173,7 +173,7 @@ pub(crate) fn judge_counted<'a>(
     judge_entries(&dictionary.tables, rule, counts, list)
 }
 
-/// The same under a rule of any length, by counters on the stack.
+/// The first fault of a list of AVPs under a rule of any length, by counters on the stack.
 #[cycle(judge)]
 #[inline(never)]
 fn judge_list_on_stack<'a>(

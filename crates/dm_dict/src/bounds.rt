@@ -78,7 +78,7 @@ fn lane_excess(lanes: u16x8, others: u16x8) -> u16x8
     lanes.saturating_sub(others)
 }
 
-/// The marks of both: a lane is 0 where it is in both.
+/// The marks of both, joined: all are 0 only where all of both are.
 #[inline(always)]
 fn joined_marks(marks: u16x8, others: u16x8) -> u16x8
     ensures first { is_unmarked result ≡ true → is_unmarked marks ≡ true }
@@ -87,7 +87,7 @@ fn joined_marks(marks: u16x8, others: u16x8) -> u16x8
     marks | others
 }
 
-/// Whether each lane is 0.
+/// True only where each lane is 0.
 #[inline(always)]
 fn are_lanes_zero(marks: u16x8) -> bool
     ensures { result ≡ true → is_unmarked marks ≡ true }

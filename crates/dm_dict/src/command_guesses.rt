@@ -24,7 +24,7 @@ pub(crate) fn has_head(command: &CommandDef, code: u32, request: bool, err: bool
     code == command.code && request == command.request && err == command.err
 }
 
-/// The guess of a slot behind the command at the place, which has it: the first one stays.
+/// The guess of a slot once the command at the place, to whose code the slot belongs, is noted: the first one stays.
 fn first_guess(guess: u16, place: usize) -> u16 {
     if guess == NONE {
         place.min(NONE as usize) as u16

@@ -10,8 +10,8 @@ ghost use Rattle.dm_dict.specs.Faults.{Fault as AFault, data_faults};
 ghost use Rattle.dm_dict.specs.Listing.{coded};
 
 use crate::avps::is_left_out;
-use crate::between::are_between;
 use crate::codes::{INVALID_AVP_LENGTH, INVALID_AVP_VALUE};
+use crate::octet_ranges::are_between;
 use byteorder::{BigEndian, ByteOrder};
 use dm_tables::AvpDef;
 use dm_value::{AvpType, ValueFault, value_fault};
@@ -31,7 +31,7 @@ pub(crate) fn data_fault(def: &AvpDef, octets: &[u8]) -> Option<u32>
     }
 }
 
-/// Whether octets are an Address (RFC 6733, 4.3.1): family 1 wants 4 octets more, family 2 wants 16.
+/// True only where octets are an Address (RFC 6733, 4.3.1): family 1 wants 4 octets more, family 2 wants 16.
 #[inline(always)]
 fn passes_address(octets: &[u8]) -> bool
     ensures { result ≡ true → flaw Address octets.now ≡ None }
@@ -46,7 +46,7 @@ fn passes_address(octets: &[u8]) -> bool
     }
 }
 
-/// Whether octets are a DiameterIdentity (4.3.1).
+/// True only where octets are a DiameterIdentity (4.3.1).
 #[inline(always)]
 fn passes_identity(octets: &[u8]) -> bool
     ensures { result ≡ true → flaw DiameterIdentity octets.now ≡ None }
@@ -54,7 +54,7 @@ fn passes_identity(octets: &[u8]) -> bool
     octets.len() >= 1 && are_between(octets, 0x21, 0x7e)
 }
 
-/// Whether octets are UTF-8. Of ASCII it is seen sixteen octets at once.
+/// True only where octets are UTF-8. Of ASCII it is seen sixteen octets at once.
 #[inline(always)]
 fn passes_text(octets: &[u8]) -> bool
     ensures { result ≡ true → flaw UTF8String octets.now ≡ None }
@@ -62,8 +62,8 @@ fn passes_text(octets: &[u8]) -> bool
     are_between(octets, 0, 0x7f) || value_fault(AvpType::UTF8String, octets).is_none()
 }
 
-/// Whether nothing is wrong with data of this type, which isn't Grouped or Enumerated. Of the commonest types it is
-/// seen at once.
+/// True only where nothing is wrong with data of this type, which isn't Grouped or Enumerated. Of the commonest types
+/// it is seen at once.
 #[inline(always)]
 pub(crate) fn passes_data(kind: AvpType, octets: &[u8]) -> bool
     requires group { kind ≢ Grouped }

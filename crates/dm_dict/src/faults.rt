@@ -11,7 +11,7 @@ ghost use Rattle.dm_dict.specs.Listing.{all_told, AreFoundIn};
 use crate::fault::Fault;
 use crate::findings::Findings;
 use crate::linked::Linked;
-use crate::message_faults::find_faults;
+use crate::located_faults::find_faults;
 use crate::{Dictionary, NoMemory};
 use dm_wire::laws::members_spell;
 use dm_wire::{AvpsRef, Header, Message, MessageRef};

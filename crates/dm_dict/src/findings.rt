@@ -6,8 +6,8 @@ ghost use Rattle.dm_dict.specs.Located.{here};
 ghost use Rattle.dm_dict.specs.Locating.{AddsAt};
 
 use crate::fault::Fault;
+use crate::located_fault::LocatedFault;
 use crate::path::Path;
-use crate::places::LocatedFault;
 use dm_value::NoMemory;
 use std::alloc::Global;
 

@@ -21,8 +21,8 @@ use std::alloc::Global;
 /// Groups that may stand inside each other.
 pub(crate) const GROUPS: u32 = 8;
 
-/// The command whose rule the message has. All answers that report an error have one rule, that of
-/// command 0 with ERR.
+/// The command whose rule a message of this header has, if it is defined. All answers that report an error have one
+/// rule, that of command 0 with ERR.
 pub(crate) fn command_for<'d>(dictionary: &'d Linked, header: &Header) -> Option<LinkedCommand<'d>>
     requires { IsLinked dictionary.now }
     ensures def { option_map (λ command. command.def.now) result

@@ -2,8 +2,8 @@
 //! on a message, which is its first fault in a stated order.
 #![tactic(auto)]
 
+mod avp_faults;
 mod avps;
-mod between;
 mod bounds;
 pub mod codes;
 mod command_guesses;
@@ -11,7 +11,9 @@ mod counts;
 mod data;
 mod dictionary;
 mod entries;
+mod enumerated_lists;
 mod fault;
+mod fault_list;
 mod faults;
 mod findings;
 mod judge;
@@ -20,17 +22,15 @@ pub mod laws;
 mod linked;
 mod links;
 mod listing_entries;
-mod locating;
+mod located_fault;
+mod located_faults;
 mod marks;
 mod message_avps;
-mod message_faults;
-mod numbers;
-mod opening;
+mod occurrences;
+mod octet_ranges;
 mod passing;
 mod path;
-mod places;
 mod printing;
-mod put;
 mod rows;
 mod rule_links;
 mod rules;
@@ -48,6 +48,6 @@ pub use dm_value::{
 };
 pub use fault::Fault;
 pub use judged::{Failed, Judged};
+pub use located_fault::LocatedFault;
 pub use path::{Path, Step};
-pub use places::LocatedFault;
 pub use verdict::Verdict;

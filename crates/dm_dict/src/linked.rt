@@ -79,7 +79,7 @@ pub(crate) struct LinkedCommand<'d> {
     pub(crate) links: &'d Links,
 }
 
-/// The links of each AVP's rule, behind the others.
+/// Adds the links of each AVP's rule behind the others.
 fn link_avps(
     alloc: Global,
     tables: &Tables,
@@ -97,7 +97,7 @@ fn link_avps(
     Ok(())
 }
 
-/// The links of each command's rule, behind the others.
+/// Adds the links of each command's rule behind the others.
 fn link_commands(
     alloc: Global,
     tables: &Tables,
@@ -164,7 +164,7 @@ impl Linked {
         done
     }
 
-    /// The same, by guesses of the names.
+    /// Links the tables, where there are no links, by these guesses of where names are defined.
     fn link_with_guesses(&mut self, alloc: Global, guesses: &NameGuesses) -> Result<(), NoMemory>
         requires dictionary { IsDictionary self.old.tables }
         requires guesses { AreGuessed self.old.tables.avps.items guesses.now.places.items }
@@ -263,7 +263,8 @@ impl Linked {
         }
     }
 
-    /// Whether the command at the place, if there is one, has the code with REQ and ERR.
+    /// True only where the command at the place is the first that has the code with REQ and ERR. Where there is none at
+    /// the place the answer is no.
     #[inline(always)]
     fn is_headed_at(&self, place: usize, code: u32, request: bool, err: bool) -> bool
         requires { IsLinked self.now }

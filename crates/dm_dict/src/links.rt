@@ -91,7 +91,7 @@ impl Debug for Links {
 /// The most entries among which a link is sooner found one by one than by its hash.
 const SHORT_RULE: usize = 16;
 
-/// The link has the place, unless it has one.
+/// Notes the place of the link, if there is one, unless one is noted.
 fn note_place(
     places: &mut IndexMap<usize, usize>,
     link: Option<usize>,
@@ -213,7 +213,7 @@ impl Links {
         }
     }
 
-    /// The same as `place`, without a seat.
+    /// The place of the first entry that has the link, else of the first that has none; found without a seat.
     #[inline(never)]
     fn place_by_search(&self, definition: usize) -> Option<usize>
         ensures { result ≡ option_or (position_from (has_link (Some definition)) 0 self.now.rows)
@@ -222,7 +222,8 @@ impl Links {
         self.place_of(definition).or(self.any)
     }
 
-    /// The entry at the code's seat and its row, if it names the AVPs of this code and vendor.
+    /// The place of the first entry that names the AVPs of this code and vendor, and its row, where the code's seat has
+    /// it and an AVP may stand there. None doesn't tell that there is no such entry.
     #[inline(always)]
     pub(crate) fn row(&self, code: u32, vendor: Option<u32>) -> Option<(usize, Row)>
         ensures place { IfSome result (λ found. Some found.0 ≡ position_from (names_avps code vendor) 0 self.now.rows) }

@@ -77,7 +77,7 @@ fn pass_avps_with_rows<'a>(
 }
 
 /// The AVPs behind the first, where it has no row and is seen to be good, and behind those without a definition that
-/// follow it; they are counted.
+/// follow it; they are counted. None where the first isn't such an AVP; then nothing is counted.
 #[inline(always)]
 fn pass_avps_without_row<'a>(
     dictionary: &Linked,
@@ -157,7 +157,7 @@ fn judge_with_counters<'a>(
     judge_counted(dictionary, rule, list, left, GROUPS, alloc, counts)
 }
 
-/// The same under a rule of many entries, by counters on the stack.
+/// The first fault of AVPs under a rule of many entries, by counters on the stack.
 // (A function of its own in the machine's code too, as the next one: its locals would be zeroed at its caller's entry.)
 #[inline(never)]
 fn judge_avps_on_stack<'a>(
@@ -177,7 +177,8 @@ fn judge_avps_on_stack<'a>(
     judge_with_counters(dictionary, rule, list, alloc, &mut counts)
 }
 
-/// The same under a rule of any length; by a counter for each entry of a long one where there is memory for that.
+/// The first fault of AVPs under a rule of any length; by a counter for each entry of a long one where there is memory
+/// for that.
 #[inline(never)]
 fn judge_long_rule<'a>(
     dictionary: &Linked,

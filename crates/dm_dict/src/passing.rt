@@ -93,7 +93,7 @@ fn is_failed_avp_at(dictionary: &Linked, place: usize) -> bool
 }
 
 /// Whether nothing is wrong with an AVP that may stand where it stands, whose definition is of this type and has this
-/// place.
+/// place. Where it isn't seen the answer is no.
 #[cycle(passing)]
 #[inline(always)]
 fn passes_defined(
@@ -127,8 +127,8 @@ fn passes_defined(
     passes_data(kind, avp.bytes) || is_failed_avp_at(dictionary, place)
 }
 
-/// Whether nothing is wrong with an AVP that stands under the rule at this entry, which has this row. If so it is
-/// counted.
+/// True only where nothing is wrong with an AVP that stands under the rule at this entry, which has this row; then it
+/// is counted. Where it isn't seen the answer is no, and nothing is counted.
 #[inline(always)]
 pub(crate) fn pass_avp_with_row(
     dictionary: &Linked,
@@ -157,7 +157,8 @@ pub(crate) fn pass_avp_with_row(
     true
 }
 
-/// The same of an AVP that has no definition, as the marks tell at once, and wants none: it isn't mandatory.
+/// True only for an AVP that has no definition, as the marks of the codes tell at once, and wants none: it isn't
+/// mandatory. Then it is counted, else nothing is.
 #[inline(always)]
 pub(crate) fn pass_undefined_avp(
     dictionary: &Linked,
@@ -180,7 +181,8 @@ pub(crate) fn pass_undefined_avp(
     true
 }
 
-/// The same of an AVP that stands under the rule where it is looked up.
+/// True only where nothing is wrong with an AVP, which is looked up under the rule; then it is counted. Where it isn't
+/// seen the answer is no, and nothing is counted.
 #[cycle(passing)]
 #[inline(always)]
 pub(crate) fn pass_looked_up_avp(
@@ -209,7 +211,8 @@ pub(crate) fn pass_looked_up_avp(
     )
 }
 
-/// The same of an AVP of these parts.
+/// True only where nothing is wrong with an AVP of these parts, which is looked up under the rule; then it is counted.
+/// Where it isn't seen the answer is no, and nothing is counted.
 // (A function of its own in the machine's code too, to which nothing is handed by its place in memory: few AVPs have no
 // row, and the others' loop neither writes theirs down nor keeps registers for these.)
 #[cycle(passing)]
@@ -249,7 +252,7 @@ fn pass_avp_parts(
 }
 
 /// Whether nothing is wrong with a Grouped AVP of this rule and these octets, where so many groups may stand inside
-/// each other.
+/// each other. Where it isn't seen the answer is no.
 #[cycle(passing)]
 fn passes_group(dictionary: &Linked, rule: LinkedRule<'_>, octets: &[u8], depth: u32) -> bool
     requires linked { IsLinked dictionary.now }
@@ -380,7 +383,7 @@ fn passes_with_counters(
     pass_octets(dictionary, rule, octets, depth, counts) && are_bounds_kept(rule, counts)
 }
 
-/// The same under a rule of few entries.
+/// True only where the octets are AVPs and nothing is wrong with them under a rule of few entries.
 #[cycle(passing)]
 fn passes_few_entries(dictionary: &Linked, rule: LinkedRule<'_>, octets: &[u8], depth: u32) -> bool
     requires linked { IsLinked dictionary.now }
@@ -393,7 +396,7 @@ fn passes_few_entries(dictionary: &Linked, rule: LinkedRule<'_>, octets: &[u8], 
     passes_with_counters(dictionary, rule, octets, depth, &mut counts)
 }
 
-/// The same under a rule of many entries.
+/// True only where the octets are AVPs and nothing is wrong with them under a rule of many entries.
 // (A function of its own in the machine's code too: its counters would be zeroed at its caller's entry.)
 #[cycle(passing)]
 #[inline(never)]

@@ -82,7 +82,7 @@ impl RuleLinks {
         }
     }
 
-    /// Room for the links of these AVPs' rules more.
+    /// Makes room for the links of these AVPs' rules.
     pub(crate) fn reserve(&mut self, avps: &[AvpDef]) -> Result<(), NoMemory>
         ensures { self.new ≡ self.old }
     {
@@ -91,7 +91,7 @@ impl RuleLinks {
         Ok(())
     }
 
-    /// The links of a rule without entries, behind the others.
+    /// Adds the links of a rule without entries behind the others.
     fn push_none(&mut self, alloc: Global) -> Result<(), NoMemory>
         ensures { OnOk result (self.new ≡ self.old ++ no_links ∷ []) }
     {
@@ -100,7 +100,7 @@ impl RuleLinks {
         Ok(())
     }
 
-    /// Links behind the others.
+    /// Adds links behind the others.
     fn push_links(&mut self, alloc: Global, links: Links) -> Result<(), NoMemory>
         ensures { OnOk result (self.new ≡ self.old ++ links ∷ []) }
     {
@@ -110,7 +110,7 @@ impl RuleLinks {
         Ok(())
     }
 
-    /// The links of one rule more, behind the others.
+    /// Adds the links of one more rule behind the others.
     pub(crate) fn push(
         &mut self,
         alloc: Global,

@@ -84,7 +84,8 @@ pub(crate) fn look_up_avp(
     place_and_entry(tables, rule, place, avp)
 }
 
-/// The same, by the marks of the codes first.
+/// Where the definition of the AVP stands among the AVPs, and where under the rule the AVP stands; by the marks of the
+/// codes first.
 #[inline(always)]
 pub(crate) fn look_up_by_marks(
     dictionary: &Linked,
@@ -109,7 +110,8 @@ pub(crate) fn look_up_by_marks(
     place_and_entry(&dictionary.tables, rule, place, avp)
 }
 
-/// The entry under which the AVP stands, with its row, where it is the one at the seat of its code.
+/// The place of the entry under which the AVP stands, and its row, where it is the one at the seat of its code; else
+/// None.
 #[inline(always)]
 pub(crate) fn row_for(
     dictionary: &Linked,

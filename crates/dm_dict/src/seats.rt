@@ -11,6 +11,7 @@ const EMPTY: u8 = 255;
 /// The seat of a slot whose bits several may have.
 pub(crate) const CROWDED: u8 = 254;
 
+/// The seats where no entry is linked: each is empty.
 fn no_seats() -> [u8; 128]
     ensures { (i : ℕ) → i < seat_slots → slice_index result i ≡ empty_seat }
 {

@@ -67,7 +67,7 @@ fn empty_tallies<'a>(alloc: Global, rule: &Rule) -> Result<Vec<Tally<'a>>, NoMem
     Ok(tallies)
 }
 
-/// Counts an AVP that stands at this place.
+/// Counts an AVP under the entry at this place, if there is one.
 fn tally_at_entry<'a>(tallies: &mut [Tally<'a>], at: Option<usize>, avp: AvpRef<'a>)
     ensures { (avps : List AvpDef) (rule : List Entry) (l m : List Avp)
         → ((i : ℕ) (e : Entry) → i < length rule → e ≡ slice_index_or rule i e

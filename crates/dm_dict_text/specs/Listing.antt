@@ -1,6 +1,6 @@
 -- What is kept of the values of a list while it is read.
 use Rattle.std.specs.Prelude.{◌≡◌, true, map}
-use Rattle.dm_dict_text.specs.declared.list.Listing.{Listing}
+use Rattle.dm_dict_text.specs.declared.value_list.Listing.{Listing}
 
 -- of a long list the names and the numbers in order
 pub record IsListing (b : Listing) : Type 0 where

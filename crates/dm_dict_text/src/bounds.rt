@@ -8,7 +8,7 @@ use crate::DictFault;
 use crate::number::number;
 use dm_grammar::{EntryItem, Form, Token};
 
-/// The least number without a qualifier.
+/// The least number of an entry of this form without a qualifier.
 fn plain_min(form: Form) -> u32
     ensures { result ≡ plain_min form }
 {
@@ -18,7 +18,7 @@ fn plain_min(form: Form) -> u32
     }
 }
 
-/// The least number where the qualifier has none.
+/// The least number of an entry of this form whose qualifier tells none.
 fn starred_min(form: Form) -> u32
     ensures { result ≡ starred_min form }
 {
@@ -28,7 +28,8 @@ fn starred_min(form: Form) -> u32
     }
 }
 
-/// The least number of a qualifier.
+/// The least number of a qualifier: what this word writes, else that of the form; or the fault of a number that is too
+/// great.
 fn qualifier_min(form: Form, word: Option<Token<'_>>) -> Result<u32, DictFault>
     ensures value { IfOk result (λ n. n ≡ low_or form (view_option word.entry)) }
     ensures good { IfOk result (λ _. option_faults u32.MAX (view_option word.entry) ≡ []) }
@@ -40,7 +41,8 @@ fn qualifier_min(form: Form, word: Option<Token<'_>>) -> Result<u32, DictFault>
     }
 }
 
-/// The greatest number of a qualifier.
+/// The greatest number of a qualifier: what this word writes, if there is one; or the fault of a number that is too
+/// great, or below `min`.
 fn qualifier_max(min: u32, word: Option<Token<'_>>) -> Result<Option<u32>, DictFault>
     ensures value { IfOk result (λ n. n ≡ option_map number (view_option word.entry)) }
     ensures good { IfOk result (λ _. above_faults min (view_option word.entry) ≡ []) }
@@ -57,7 +59,7 @@ fn qualifier_max(min: u32, word: Option<Token<'_>>) -> Result<Option<u32>, DictF
     }
 }
 
-/// The least and the greatest number of an entry.
+/// The least and the greatest number of an entry, or the first fault of its qualifier. No greatest number is no limit.
 pub fn entry_bounds(item: &EntryItem<'_>) -> Result<(u32, Option<u32>), DictFault>
     ensures min { IfOk result (λ b. b.0 ≡ min_of (view_entry item.now).form (view_entry item.now).qualifier) }
     ensures max { IfOk result (λ b. b.1 ≡ max_of (view_entry item.now).qualifier) }

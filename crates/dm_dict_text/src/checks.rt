@@ -19,7 +19,7 @@ use indexmap::IndexSet;
 /// The greatest Command Code (RFC 6733, 3).
 const COMMAND_LIMIT: u32 = 16777215;
 
-/// The name and the number of a vendor.
+/// Checks the name and the number of a vendor. Gives the number, or the first fault.
 pub fn check_vendor(tables: &Tables, item: &VendorItem<'_>) -> Result<u32, DictFault>
     requires { IsIndexed tables.now }
     ensures number { IfOk result (λ n. n ≡ number (view_word item.now.number)) }
@@ -58,7 +58,7 @@ pub fn is_defined(
     tables.has_name_by_guess(guesses, name) || is_stray(strays, name)
 }
 
-/// The name of an AVP, which must not be AVP.
+/// Checks the name of an AVP, which must be new and not `AVP`; or gives its first fault.
 pub fn check_name(
     tables: &Tables,
     guesses: &NameGuesses,
@@ -111,7 +111,8 @@ fn is_code_taken(tables: &Tables, code: u32, vendor: Option<Option<u32>>) -> boo
     }
 }
 
-/// The code and the vendor of an AVP. No vendor is known where it is a name that no vendor has.
+/// Checks the code of an AVP and its vendor. Gives both, or the first fault. No vendor is known where it is a name that
+/// no vendor has.
 pub fn check_code(
     tables: &Tables,
     code: Token<'_>,
@@ -140,7 +141,7 @@ pub fn check_code(
     }
 }
 
-/// The name of a command.
+/// Checks the name of a command, or gives its first fault.
 pub fn check_command_name(tables: &Tables, word: Token<'_>) -> Result<(), DictFault>
     requires { IsIndexed tables.now }
     ensures good { OnOk result (title_faults tables.now.commands.items (view_word word.entry) ≡ []) }
@@ -154,7 +155,8 @@ pub fn check_command_name(tables: &Tables, word: Token<'_>) -> Result<(), DictFa
     }
 }
 
-/// The code and the Application-ID of a command.
+/// Checks the code and the Application-ID of a command. Gives both, or the first fault; the Application-ID is 0 where
+/// none is written.
 pub fn check_command_head(tables: &Tables, item: &CommandItem<'_>) -> Result<(u32, u32), DictFault>
     requires { IsIndexed tables.now }
     ensures code { IfOk result (λ x. x.0 ≡ number (view_command item.now).code) }

@@ -21,7 +21,7 @@ use crate::DictFault;
 use crate::checks::{check_code, check_command_head, check_command_name, check_name, check_vendor};
 use crate::entries::rule;
 use crate::kind::type_named;
-use crate::list::value_list;
+use crate::value_list::value_list;
 use dm_grammar::{AvpItem, CommandItem, GroupItem, Item, VendorItem};
 use dm_tables::{AvpDef, CommandDef, NameGuesses, Rule, Tables, Values, VendorDef};
 use dm_value::AvpType;

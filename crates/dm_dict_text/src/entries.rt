@@ -88,7 +88,7 @@ impl<'a> Entries<'a> {
         Ok(())
     }
 
-    /// The numbers of an entry that may stand behind the others.
+    /// The least and the greatest number of an entry that may stand behind the others, or its first fault.
     fn check_entry(&self, item: &EntryItem<'a>) -> Result<(u32, Option<u32>), DictFault>
         requires { IsNoted self.now }
         ensures min { IfOk result (λ b. b.0 ≡ min_of (view_entry item.now).form (view_entry item.now).qualifier) }
@@ -108,7 +108,7 @@ impl<'a> Entries<'a> {
         Ok(range)
     }
 
-    /// One entry more, behind the others.
+    /// Adds an entry behind the others, or gives its first fault.
     fn add(&mut self, alloc: Global, item: &EntryItem<'a>) -> Result<(), DictFault>
         requires { IsNoted self.old }
         ensures good { OnOk result (rule_entry_faults self.old.entries.items (view_entry item.now) ≡ []) }
@@ -131,7 +131,7 @@ impl<'a> Entries<'a> {
         Ok(())
     }
 
-    /// Room for so many entries more.
+    /// Makes room for so many entries more.
     fn reserve(&mut self, count: usize) -> Result<(), NoMemory>
         ensures entries { self.new.entries.items ≡ self.old.entries.items }
         ensures noted { IsNoted self.old → IsNoted self.new }
@@ -143,7 +143,7 @@ impl<'a> Entries<'a> {
         Ok(())
     }
 
-    /// The entries of the items, in order, where there are none.
+    /// Adds the entries of the items, in order, where there are none; or gives the first fault.
     fn add_all(&mut self, alloc: Global, items: &[EntryItem<'a>]) -> Result<(), DictFault>
         requires empty { self.old.entries.items ≡ [] }
         requires noted { IsNoted self.old }
@@ -157,7 +157,8 @@ impl<'a> Entries<'a> {
         Ok(())
     }
 
-    /// The entries of the items, in order, where there are none; room for them is taken first.
+    /// Adds the entries of the items, in order, where there are none, or gives the first fault; room for them is taken
+    /// first.
     fn add_all_reserved(&mut self, alloc: Global, items: &[EntryItem<'a>]) -> Result<(), DictFault>
         requires empty { self.old.entries.items ≡ [] }
         requires noted { IsNoted self.old }

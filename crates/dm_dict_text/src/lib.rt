@@ -8,12 +8,12 @@ mod entries;
 mod fault;
 mod kind;
 pub mod laws;
-mod list;
 mod number;
 mod print;
 mod tables_to_text;
 mod text_to_tables;
 mod unknown;
+mod value_list;
 
 pub use fault::DictFault;
 pub use tables_to_text::print_tables;

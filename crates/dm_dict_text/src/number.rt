@@ -8,7 +8,7 @@ ghost use Rattle.dm_dict_text.specs.Numbers.{within};
 use crate::DictFault;
 use dm_grammar::Token;
 
-/// The number that decimal digits write, where it is at most `limit`.
+/// The number that decimal digits write, where it is at most `limit`; else None.
 fn number_within(digits: &[u8], limit: u32) -> Option<u32>
     ensures { result ≡ within limit (number_of digits.now) }
 {
@@ -23,7 +23,7 @@ fn number_within(digits: &[u8], limit: u32) -> Option<u32>
     Some(number as u32)
 }
 
-/// The number of a word, which is at most `limit`.
+/// The number of a word, or the fault `Range` where it is above `limit`.
 pub fn number(word: Token<'_>, limit: u32) -> Result<u32, DictFault>
     ensures value { IfOk result (λ n. n ≡ number (view_word word.entry)) }
     ensures small { IfOk result (λ n. n ≤ limit) }
@@ -36,7 +36,7 @@ pub fn number(word: Token<'_>, limit: u32) -> Result<u32, DictFault>
     }
 }
 
-/// The number of a word that may be missing.
+/// The number of a word that may be missing, or the fault `Range` where it is above `limit`.
 pub fn optional_number(word: Option<Token<'_>>, limit: u32) -> Result<Option<u32>, DictFault>
     ensures value { IfOk result (λ n. n ≡ option_map number (view_option word.entry)) }
     ensures good { IfOk result (λ _. option_faults limit (view_option word.entry) ≡ []) }

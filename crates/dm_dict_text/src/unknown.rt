@@ -16,7 +16,7 @@ use dm_grammar::{EntryItem, Item, Token, VendorWord};
 use dm_tables::{NameGuesses, Tables, VendorDef, Vendors};
 use indexmap::IndexSet;
 
-/// The fault of an entry that names no AVP.
+/// The fault of an entry that names no AVP; None where it names one.
 fn unknown_entry_fault(
     tables: &Tables,
     guesses: &NameGuesses,
@@ -55,7 +55,7 @@ fn first_unknown_in_rule(
     None
 }
 
-/// The fault of a name that none of the first vendors, so many, has.
+/// The fault of a name that none of the first vendors, so many, has; None where one has it, or none is written.
 fn unknown_vendor_fault(
     vendors: &Vendors,
     first: usize,
@@ -73,7 +73,7 @@ fn unknown_vendor_fault(
     }
 }
 
-/// The fault of a name that no type has.
+/// The fault of a name that no type has; None where one has it.
 fn unknown_type_fault(word: Token<'_>) -> Option<DictFault>
     ensures { result ≡ first_dict_fault (kind_unknown (view_word word.entry)) }
 {

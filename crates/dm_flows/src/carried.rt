@@ -15,7 +15,7 @@ pub(crate) struct Carried<'a> {
     pub(crate) whole: bool,
 }
 
-/// So many octets, or as many as there are.
+/// The first so many of the octets, or all where there are fewer.
 pub(crate) fn first_octets(octets: &[u8], size: usize) -> &[u8]
     ensures { result.now ≡ take size octets.now }
 {

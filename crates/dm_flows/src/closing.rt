@@ -1,4 +1,6 @@
 //! What ended one direction of a connection.
+ghost use Rattle.std.specs.Prelude.{◌≡◌};
+ghost use Rattle.dm_flows.specs.Connections.{is_unended};
 
 /// What ended a direction, and up to where its octets are taken (RFC 9293, 3.6 and 3.5.3).
 #[derive(Clone, Copy, Debug, PartialEq, Eq)]
@@ -9,4 +11,14 @@ pub enum Closing {
     Fin(u32),
     /// A RST: no octets are taken.
     Reset,
+}
+
+/// Whether nothing ended the direction.
+pub(crate) fn is_open(closing: Closing) -> bool
+    ensures { result ≡ is_unended closing }
+{
+    match closing {
+        Closing::Open => true,
+        _ => false,
+    }
 }

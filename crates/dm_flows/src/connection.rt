@@ -1,12 +1,12 @@
 //! A connection: Diameter messages out of the segments of both ends.
-ghost use Rattle.std.specs.Prelude.{◌≡◌, ◌↔◌, IsTrue, OnOk, OnErr, IfOk, IfSome, IfNone};
+ghost use Rattle.std.specs.Prelude.{◌≡◌, OnOk, OnErr, IfOk, IfSome, IfNone};
 ghost use Rattle.dm_flows.specs.Connections.{new_connection, passed_in, held_in, pending_in};
 ghost use Rattle.dm_flows.specs.Connections.{TakesSegment, LeavesConnection};
 ghost use Rattle.dm_flows.specs.Flows.{HandsMessage, HandsNoMessage};
 ghost use Rattle.dm_flows.specs.Tcps.{segment_seen};
 
-use crate::address::{Address, Endpoint};
-use crate::control::take_segment;
+use crate::address::{Endpoint, is_same_end};
+use crate::control_bits::take_segment;
 use crate::flow::Flow;
 use crate::segment::Segment;
 use std::alloc::{AllocError, Global};
@@ -27,24 +27,6 @@ impl Model for Connection {
     ghost Value = { ConnectionState };
 
     ghost view = { λ c. record { first = c.first; second = c.second; forth = c.forth; back = c.back } };
-}
-
-/// Whether both are the same address.
-fn is_same_address(one: Address, other: Address) -> bool
-    ensures { IsTrue result ↔ one ≡ other }
-{
-    match (one, other) {
-        (Address::V4(one), Address::V4(other)) => one == other,
-        (Address::V6(one), Address::V6(other)) => one == other,
-        _ => false,
-    }
-}
-
-/// Whether both are the same end.
-pub(crate) fn is_same_end(one: Endpoint, other: Endpoint) -> bool
-    ensures { IsTrue result ↔ one ≡ other }
-{
-    one.port == other.port && is_same_address(one.address, other.address)
 }
 
 impl Connection {

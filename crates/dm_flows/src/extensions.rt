@@ -59,7 +59,8 @@ fn is_fragment(next: u8, octets: &[u8]) -> bool
     part / 8 + part % 2 != 0
 }
 
-/// Passes extension headers, the first of which has the number `first`.
+/// The protocol and the octets behind extension headers, the first of which has the number `first`; an Err where they
+/// end in the middle of one, or one is a fragment's.
 pub(crate) fn pass_extensions(first: u8, octets: &[u8]) -> Result<Upper<'_>, Astray>
     ensures upper { IfOk result (λ upper. (n : ℕ) × LeadsTo n first octets.now upper.protocol upper.payload.now) }
     ensures astray { IfErr result (GoesAstray first octets.now) }

@@ -58,14 +58,15 @@ impl Model for Flow {
     ghost invariant = { λ f. f.framer.fault ≡ None };
 }
 
-/// So many octets more.
+/// The octets that were counted and so many more, 2^64 - 1 at most.
 fn octet_sum(passed: u64, octets: usize) -> u64
     ensures { result ≡ more_passed passed octets }
 {
     passed.saturating_add(octets as u64)
 }
 
-/// How many octets there are from a sequence number up to the end.
+/// How many octets there are from the sequence number `number` up to `last`, modulo 2^32; none where `last` is before
+/// it.
 fn count_before_end(last: u32, number: u32) -> usize
     ensures { result ≡ place_ahead number last }
 {
@@ -73,7 +74,8 @@ fn count_before_end(last: u32, number: u32) -> usize
     if room < HALF { room as usize } else { 0 }
 }
 
-/// The octets, of which the first has this number, that are before the end.
+/// The octets, the first of which has this number, up to the end of the direction: all where nothing ended it, none
+/// behind a RST.
 fn octets_before_end(closing: Closing, number: u32, octets: &[u8]) -> &[u8]
     ensures within { result.now ≡ octets_within closing number octets.now }
     ensures most { length result.now ≤ length octets.now }
@@ -85,14 +87,14 @@ fn octets_before_end(closing: Closing, number: u32, octets: &[u8]) -> &[u8]
     }
 }
 
-/// The sequence number behind so many octets.
+/// The sequence number behind so many octets, of which the first has this number.
 pub(crate) fn number_behind(number: u32, octets: usize) -> u32
     ensures { result ≡ sequence_behind number octets }
 {
     number.wrapping_add((octets % ALL_NUMBERS) as u32)
 }
 
-/// How many octets wait behind one that is missing.
+/// How many octets wait behind one that is missing; none where the place in the stream isn't known.
 fn waiting_in(window: &Option<Window>) -> usize
     ensures waiting { result ≡ known_waiting window.now }
     ensures most { result ≤ 1048576 }
@@ -103,7 +105,7 @@ fn waiting_in(window: &Option<Window>) -> usize
     }
 }
 
-/// How many octets there are from the next one to the last that waits.
+/// How many octets there are from the next one to the last that waits; none where the place in the stream isn't known.
 fn span_in(window: &Option<Window>) -> usize
     ensures { result ≡ known_span window.now }
 {
@@ -113,7 +115,7 @@ fn span_in(window: &Option<Window>) -> usize
     }
 }
 
-/// Hands octets in order to the framer.
+/// Hands the octets in `fresh` to the framer, and empties it. Where memory is wanted both stay as they were.
 fn feed_framer(framer: &mut Framer, fresh: &mut Vec<u8>) -> Result<(), AllocError>
     requires { framer.old.fault ≡ None }
     ensures fed { OnOk result (framer.new
@@ -188,7 +190,7 @@ impl Flow {
         self.closing
     }
 
-    /// Leaves the stream.
+    /// Leaves the stream: what waits, and what is in order and wasn't handed out, is passed over.
     fn leave_stream(&mut self)
         ensures { self.new ≡ stream_left self.old }
     {
@@ -256,7 +258,8 @@ impl Flow {
         Ok(())
     }
 
-    /// Takes octets that are before the end.
+    /// Takes octets that are before the end: they go on with the stream, or a new one begins with them, or they are
+    /// passed over.
     fn take_before_end(&mut self, number: u32, octets: &[u8]) -> Result<(), AllocError>
         ensures taken { OnOk result (TakesWithin self.old number octets.now self.new) }
         ensures left { OnErr result ((self.new ≡ self.old) ⊎ FlowTakes self.old number octets.now self.new) }
@@ -268,7 +271,8 @@ impl Flow {
         }
     }
 
-    /// Takes octets where the place in the stream is known and they aren't too far away; else it answers false.
+    /// Takes octets where the place in the stream is known and they aren't too far away; else it answers false, and
+    /// changes nothing.
     fn continue_stream(&mut self, number: u32, octets: &[u8]) -> Result<bool, AllocError>
         ensures on { result ≡ Ok true → (IsAstrayAt self.old.window number octets.now → ⊥)
             × FlowTakes self.old number octets.now self.new }
@@ -303,7 +307,7 @@ impl Flow {
         Ok(())
     }
 
-    /// Leaves the stream, and begins one with these octets.
+    /// Leaves the stream, and begins one with these octets, of which the first has this number.
     fn begin_stream(&mut self, number: u32, front: Vec<u8>)
         ensures { self.new ≡ begun_by_header self.old number front.items }
     {

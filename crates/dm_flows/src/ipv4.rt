@@ -13,7 +13,7 @@ const LEAST_LEN: usize = 20;
 /// MF and the Fragment Offset, without the reserved bit and DF.
 const FRAGMENT: u16 = 16_384;
 
-/// The octets of the header, which counts 32-bit words.
+/// How many octets the header of an IP packet has, by its IHL, which counts 32-bit words.
 fn ipv4_header_len(octets: &[u8]) -> usize
     requires { 1 ≤ length octets.now }
     ensures { result ≡ ipv4_header octets.now }
@@ -21,7 +21,7 @@ fn ipv4_header_len(octets: &[u8]) -> usize
     4 * (octets[0] as usize % 16)
 }
 
-/// What the packet carries.
+/// What an IP packet of version 4 carries, or why it gives nothing.
 ///
 /// ```text
 ///  0                   1                   2                   3
@@ -53,7 +53,7 @@ pub(crate) fn carried_by_ipv4(octets: &[u8]) -> Result<Carried<'_>, Passed>
     Ok(carried_with_lengths(octets, header, total))
 }
 
-/// What a packet with these lengths carries.
+/// What an IP packet of version 4 carries, of which the header and the whole have so many octets.
 fn carried_with_lengths(octets: &[u8], header: usize, total: usize) -> Carried<'_>
     requires least { 20 ≤ length octets.now }
     requires header { header ≤ length octets.now }

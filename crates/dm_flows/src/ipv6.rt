@@ -12,7 +12,7 @@ use byteorder::{BigEndian, ByteOrder};
 /// The octets of a header.
 const HEADER_LEN: usize = 40;
 
-/// What the packet carries behind its extension headers.
+/// What an IP packet of version 6 carries behind its extension headers, or why it gives nothing.
 ///
 /// ```text
 ///  0                   1                   2                   3
@@ -39,7 +39,7 @@ pub(crate) fn carried_by_ipv6(octets: &[u8]) -> Result<Carried<'_>, Passed>
     }
 }
 
-/// The octets behind the header, as the Payload Length says.
+/// How many octets there are behind the header, as the Payload Length says.
 fn payload_len(octets: &[u8]) -> usize
     requires { 40 ≤ length octets.now }
     ensures { result ≡ ipv6_size octets.now }

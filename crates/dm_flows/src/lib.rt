@@ -5,7 +5,7 @@ mod address;
 mod carried;
 mod closing;
 mod connection;
-mod control;
+mod control_bits;
 mod extensions;
 mod flow;
 mod header;

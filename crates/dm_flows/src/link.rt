@@ -47,7 +47,7 @@ fn kind_of_link(link: u16) -> LinkKind
     }
 }
 
-/// The IP packet behind so many octets and an EtherType.
+/// The IP packet behind so many octets, any number of tags and an EtherType, or why there is none.
 fn ip_behind_ethertype(front: usize, octets: &[u8]) -> Result<IpOctets<'_>, Passed>
     ensures found { IfOk result (λ ip. IsTyped front octets.now ip.network ip.octets.now) }
     ensures none { IfErr result (IsNoneTyped front octets.now) }
@@ -67,7 +67,7 @@ fn ip_behind_ethertype(front: usize, octets: &[u8]) -> Result<IpOctets<'_>, Pass
     }
 }
 
-/// The IP packet behind a header of so many octets, which names its version or doesn't.
+/// The IP packet behind a header of so many octets, which names this version; an Err where it names none.
 fn ip_behind_header(
     size: usize,
     network: Option<Network>,
@@ -86,7 +86,7 @@ fn ip_behind_header(
     }
 }
 
-/// The IP packet behind a Linux cooked header of version 2.
+/// The IP packet behind a Linux cooked header of version 2, or why there is none.
 fn ip_of_cooked_second(octets: &[u8]) -> Result<IpOctets<'_>, Passed>
     ensures found { IfOk result (λ ip. HoldsIp LinkKind.CookedSecond octets.now ip.network ip.octets.now) }
     ensures none { IfErr result (HasLinkFault LinkKind.CookedSecond octets.now) }
@@ -101,7 +101,7 @@ fn ip_of_cooked_second(octets: &[u8]) -> Result<IpOctets<'_>, Passed>
     )
 }
 
-/// The IP packet behind the family of addresses, in either order of octets.
+/// The IP packet behind a BSD loopback header, a family of addresses in either order of octets, or why there is none.
 fn ip_of_host_loopback(octets: &[u8]) -> Result<IpOctets<'_>, Passed>
     ensures found { IfOk result (λ ip. HoldsIp LinkKind.HostLoopback octets.now ip.network ip.octets.now) }
     ensures none { IfErr result (HasLinkFault LinkKind.HostLoopback octets.now) }
@@ -112,7 +112,7 @@ fn ip_of_host_loopback(octets: &[u8]) -> Result<IpOctets<'_>, Passed>
     ip_behind_header(4, network_by_host_family(octets), octets)
 }
 
-/// The IP packet behind the family of addresses, in network byte order.
+/// The IP packet behind a BSD loopback header, a family of addresses in network byte order, or why there is none.
 fn ip_of_loopback(octets: &[u8]) -> Result<IpOctets<'_>, Passed>
     ensures found { IfOk result (λ ip. HoldsIp LinkKind.Loopback octets.now ip.network ip.octets.now) }
     ensures none { IfErr result (HasLinkFault LinkKind.Loopback octets.now) }
@@ -123,7 +123,7 @@ fn ip_of_loopback(octets: &[u8]) -> Result<IpOctets<'_>, Passed>
     ip_behind_header(4, network_by_big_endian_family(octets), octets)
 }
 
-/// The IP packet itself.
+/// The IP packet that all octets are, of the version that the first one tells, or why they are none.
 fn ip_of_raw_link(octets: &[u8]) -> Result<IpOctets<'_>, Passed>
     ensures found { IfOk result (λ ip. HoldsIp LinkKind.RawIp octets.now ip.network ip.octets.now) }
     ensures none { IfErr result (HasLinkFault LinkKind.RawIp octets.now) }
@@ -137,7 +137,7 @@ fn ip_of_raw_link(octets: &[u8]) -> Result<IpOctets<'_>, Passed>
     }
 }
 
-/// The IP packet that a packet of this type of link holds.
+/// The IP packet in what was captured on a link of this type, or why there is none.
 pub(crate) fn ip_of_link(link: u16, octets: &[u8]) -> Result<IpOctets<'_>, Passed>
     ensures found { IfOk result (λ ip. HoldsIp (link_kind link) octets.now ip.network ip.octets.now) }
     ensures none { IfErr result (HasLinkFault (link_kind link) octets.now) }

@@ -19,7 +19,7 @@ pub(crate) struct IpOctets<'a> {
     pub(crate) octets: &'a [u8],
 }
 
-/// The version that an EtherType names.
+/// The version of IP that an EtherType names; None where it names none.
 pub(crate) fn network_by_ethertype(kind: u16) -> Option<Network>
     ensures { result ≡ network_of kind }
 {
@@ -30,7 +30,7 @@ pub(crate) fn network_by_ethertype(kind: u16) -> Option<Network>
     }
 }
 
-/// The version that a family of addresses names, as BSD counts these.
+/// The version of IP that a family of addresses names, as BSD counts these; None where it names none.
 fn network_by_family(family: u32) -> Option<Network>
     ensures { result ≡ network_of_family family }
 {
@@ -41,7 +41,7 @@ fn network_by_family(family: u32) -> Option<Network>
     }
 }
 
-/// The version that the family in network byte order names.
+/// The version of IP that a family of addresses in network byte order names; None where it names none.
 pub(crate) fn network_by_big_endian_family(octets: &[u8]) -> Option<Network>
     requires { 4 ≤ length octets.now }
     ensures { result ≡ network_of_family (big_number 4 octets.now) }
@@ -49,7 +49,7 @@ pub(crate) fn network_by_big_endian_family(octets: &[u8]) -> Option<Network>
     network_by_family(BigEndian::read_u32(octets))
 }
 
-/// The version that the family in either order names.
+/// The version of IP that a family of addresses names in either order of its octets; None where it names none.
 pub(crate) fn network_by_host_family(octets: &[u8]) -> Option<Network>
     requires { 4 ≤ length octets.now }
     ensures { result ≡ host_network octets.now }
@@ -60,7 +60,7 @@ pub(crate) fn network_by_host_family(octets: &[u8]) -> Option<Network>
     }
 }
 
-/// The version with which a packet begins.
+/// The version of IP that a packet's first octet tells; None where it is neither 4 nor 6.
 pub(crate) fn network_by_version(octet: u8) -> Option<Network>
     ensures { result ≡ network_of_version (octet / 16) }
 {

@@ -13,7 +13,7 @@ pub enum Passed {
     /// It is a fragment of an IP packet.
     #[error("fragment of an IP packet")]
     Fragment,
-    /// It carries no TCP.
+    /// It carries another protocol than the one asked for: no TCP for `segment_of`, no SCTP for `sctp_of`.
     #[error("another protocol than TCP")]
     OtherProtocol,
     /// It was captured in part, and what is there doesn't reach.

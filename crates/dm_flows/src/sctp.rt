@@ -28,7 +28,7 @@ pub struct SctpPacket<'a> {
     pub chunks: &'a [u8],
 }
 
-/// The SCTP packet that an IP packet carries.
+/// The SCTP packet that an IP packet carries, or why it gives none.
 ///
 /// ```text
 ///  0                   1                   2                   3

@@ -102,7 +102,7 @@ fn read_data_chunk(octets: &[u8], size: u16) -> DataChunk<'_>
     }
 }
 
-/// The next DATA chunk.
+/// The next DATA chunk that has user data, and the octets behind it; None where no whole chunk that is left is one.
 fn next_data(octets: &[u8]) -> Option<FoundData<'_>>
     ensures found { IfSome result (λ found. HasData octets.now (data_seen found.chunk) found.rest.now) }
     ensures shorter { IfSome result (λ found. length found.rest.now < length octets.now) }
@@ -140,7 +140,7 @@ impl<'a> Model for DataChunks<'a> {
 }
 
 impl<'a> DataChunks<'a> {
-    /// Those of the octets behind a common header.
+    /// The DATA chunks of the octets behind a common header.
     pub fn new(chunks: &'a [u8]) -> DataChunks<'a>
         ensures { result ≡ chunks.now }
     {

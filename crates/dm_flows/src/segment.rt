@@ -33,7 +33,7 @@ pub struct Segment<'a> {
     pub payload: &'a [u8],
 }
 
-/// The octets of the header, which counts 32-bit words.
+/// How many octets the header of a TCP segment has, by its Data Offset, which counts 32-bit words.
 fn tcp_header_len(octets: &[u8]) -> usize
     requires { 13 ≤ length octets.now }
     ensures { result ≡ tcp_header octets.now }
@@ -50,7 +50,7 @@ fn is_control_bit_set(octets: &[u8], worth: u8) -> bool
     octets[13] / worth % 2 == 1
 }
 
-/// The segment that an IP packet carries.
+/// The TCP segment that an IP packet carries, or why it gives none.
 ///
 /// ```text
 ///  0                   1                   2                   3

@@ -5,7 +5,7 @@ ghost use Rattle.dm_flows.specs.Windows.{slot, first_known, known_octets, IsFill
 use std::alloc::AllocError;
 use std::collections::VecDeque;
 
-/// All but so many octets at the front, or none.
+/// The octets without so many at the front; none where there are fewer.
 pub(crate) fn without_first(octets: &[u8], passed: usize) -> &[u8]
     ensures { result.now ≡ drop passed octets.now }
 {

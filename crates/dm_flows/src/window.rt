@@ -187,7 +187,8 @@ impl Window {
         }
     }
 
-    /// Hands on octets that begin at the next number, where nothing waits.
+    /// Appends octets that begin at the next number to the output, where nothing waits. Where memory is wanted nothing
+    /// changes.
     fn hand_on_octets(&mut self, octets: &[u8], output: &mut Vec<u8>) -> Result<(), WindowFault>
         requires none { self.old.held ≡ [] }
         requires most { length octets.now ≤ 1048576 }

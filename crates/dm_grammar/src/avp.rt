@@ -10,9 +10,9 @@ ghost use Rattle.dm_grammar.specs.Told.{collect, filled};
 ghost use Rattle.dm_grammar.specs.Views.{view_word, view_avp, view_reference_option, view_words};
 
 use crate::fault::ItemFault;
+use crate::first_tokens::{begins_with_terminal, expect_token};
 use crate::item::{AvpItem, VendorWord};
 use crate::reading::{Reading, Version};
-use crate::step::{begins_with_terminal, expect_token};
 use crate::symbol::Symbol;
 use crate::terminal::{Terminal, fits};
 use crate::token::Token;

@@ -6,16 +6,15 @@ ghost use Rattle.dm_grammar.specs.Readers.{begins_entry, close_of, low_before, b
 ghost use Rattle.dm_grammar.specs.Told.{collect};
 ghost use Rattle.dm_grammar.specs.Views.{view_entry, view_option, view_words};
 
+use crate::first_tokens::{begins_with_terminal, expect_token, expect_two_tokens, take_token_if};
 use crate::item::{EntryItem, Form, Qualifier};
 use crate::reading::Reading;
-use crate::step::{
-    begins_title, begins_with_terminal, expect_token, expect_two_tokens, take_token_if,
-};
 use crate::symbol::Symbol;
 use crate::terminal::Terminal;
+use crate::title::begins_title;
 use crate::token::Token;
 
-/// The form of the entry that a bracket opens.
+/// The form of the entry that a bracket opens; None for a symbol that opens none.
 fn bracket_form(symbol: Symbol) -> Option<Form>
     ensures { result ≡ bracket_form symbol }
 {

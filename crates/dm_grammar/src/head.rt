@@ -8,8 +8,8 @@ ghost use Rattle.dm_grammar.specs.Told.{collect, filled};
 ghost use Rattle.dm_grammar.specs.Tokens.{Word};
 ghost use Rattle.dm_grammar.specs.Views.{view_head, view_option, view_words};
 
+use crate::first_tokens::{expect_token, expect_two_tokens, is_terminal_at, take_token_if};
 use crate::reading::Reading;
-use crate::step::{expect_token, expect_two_tokens, is_terminal_at, take_token_if};
 use crate::symbol::Symbol;
 use crate::terminal::Terminal;
 use crate::token::Token;

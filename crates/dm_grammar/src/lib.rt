@@ -5,14 +5,14 @@
 mod avp;
 mod entry;
 mod fault;
+mod first_tokens;
 mod head;
 mod item;
+mod items;
 mod law;
 mod lex;
-mod read;
 mod reading;
 mod rule;
-mod step;
 mod symbol;
 mod terminal;
 mod title;
@@ -26,8 +26,8 @@ pub use item::{
     AvpItem, CommandItem, EntryItem, Form, GroupItem, Item, Qualifier, ValueItem, VendorItem,
     VendorWord,
 };
+pub use items::read_items;
 pub use law::{first_version_law, items_law, syntax_law, words_law};
-pub use read::read_items;
 pub use reading::Version;
 pub use symbol::Symbol;
 pub use terminal::Terminal;

@@ -8,9 +8,9 @@ ghost use Rattle.dm_grammar.specs.Views.{view_entry, view_words};
 
 use crate::entry::{begins_entry, read_entry};
 use crate::fault::ItemFault;
+use crate::first_tokens::same_tokens;
 use crate::item::EntryItem;
 use crate::reading::Reading;
-use crate::step::same_tokens;
 use crate::token::Token;
 use std::alloc::Global;
 

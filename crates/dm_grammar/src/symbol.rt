@@ -34,7 +34,7 @@ pub enum Symbol {
     Stray,
 }
 
-/// The mark of one octet.
+/// The symbol of a mark, which is one octet; `Stray` for any other octet.
 pub(crate) fn symbol_of_mark(octet: u8) -> Symbol
     ensures { result ≡ mark_of octet }
 {

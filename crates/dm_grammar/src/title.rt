@@ -5,14 +5,14 @@ ghost use Rattle.dm_grammar.specs.declared.symbol.Symbol.TheVariants.{At, Less};
 ghost use Rattle.dm_grammar.specs.declared.terminal.Terminal.TheVariants.{One};
 ghost use Rattle.dm_grammar.specs.Places.GrammarPlace.{CommandWord, GroupWord, Head as HeadPlace, InRule, Text, Titled};
 ghost use Rattle.dm_grammar.specs.Places.TokenRole.{CommandHead, TitleIs};
-ghost use Rattle.dm_grammar.specs.Readers.{begins_with, fault_line, with_head};
+ghost use Rattle.dm_grammar.specs.Readers.{begins_with, begins_title, fault_line, with_head};
 ghost use Rattle.dm_grammar.specs.Told.{collect, filled};
 ghost use Rattle.dm_grammar.specs.Tokens.{Word};
 ghost use Rattle.dm_grammar.specs.Views.{view_word, view_head, view_words};
 
+use crate::first_tokens::{expect_token, expect_two_tokens, is_terminal_at, take_token_if};
 use crate::head::{Head, read_command_head, read_group_head};
 use crate::reading::Reading;
-use crate::step::{expect_token, expect_two_tokens, take_token_if};
 use crate::symbol::Symbol;
 use crate::terminal::Terminal;
 use crate::token::Token;
@@ -78,6 +78,16 @@ fn read_head<'t, 'a>(
         Symbol::AvpHeader => read_group_head(rest, how),
         _ => Err(first.line),
     }
+}
+
+/// Whether the tokens begin with a name in `<` and `>` and `::=`, which is the title of a command or a group.
+pub(crate) fn begins_title(tokens: &[Token<'_>]) -> bool
+    ensures { result ≡ begins_title (view_words tokens.now) }
+{
+    is_terminal_at(tokens, 0, Terminal::One(Symbol::Less))
+        && is_terminal_at(tokens, 1, Terminal::AnyName)
+        && is_terminal_at(tokens, 2, Terminal::One(Symbol::Greater))
+        && is_terminal_at(tokens, 3, Terminal::One(Symbol::Define))
 }
 
 /// A title without brackets: name.

@@ -7,9 +7,9 @@ ghost use Rattle.dm_grammar.specs.Told.{collect};
 ghost use Rattle.dm_grammar.specs.Views.{view_value, view_words};
 
 use crate::fault::ItemFault;
+use crate::first_tokens::{expect_two_tokens, same_tokens};
 use crate::item::ValueItem;
 use crate::reading::Reading;
-use crate::step::{expect_two_tokens, same_tokens};
 use crate::symbol::Symbol;
 use crate::terminal::{Terminal, fits};
 use crate::token::Token;

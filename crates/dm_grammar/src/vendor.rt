@@ -8,9 +8,9 @@ ghost use Rattle.dm_grammar.specs.Readers.{VendorPlace, begins_named, begins_ven
 ghost use Rattle.dm_grammar.specs.Told.{collect, reference_told};
 ghost use Rattle.dm_grammar.specs.Views.{view_option, view_reference_option, view_vendor, view_words};
 
+use crate::first_tokens::{begins_with_terminal, expect_token, is_terminal_at, take_token_if};
 use crate::item::{VendorItem, VendorWord};
 use crate::reading::{Reading, Version};
-use crate::step::{begins_with_terminal, expect_token, is_terminal_at, take_token_if};
 use crate::symbol::Symbol;
 use crate::terminal::Terminal;
 use crate::token::Token;
@@ -46,7 +46,7 @@ pub(crate) fn read_vendor_item<'t, 'a>(
     Ok((VendorItem { name, number }, rest))
 }
 
-/// A vendor by its name, or else by its number.
+/// A vendor by its name, or else by its number; None where neither is written.
 pub(crate) fn named_or_numbered_vendor<'a>(
     named: Option<Token<'a>>,
     number: Option<Token<'a>>,

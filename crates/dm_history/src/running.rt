@@ -44,7 +44,7 @@ fn ask_peer(
     }
 }
 
-/// Room for one reply more.
+/// Makes room for one reply more.
 fn reserve_reply(replies: &mut Vec<Result<Actions, PeerFault>>) -> Result<(), NoMemory>
     ensures same { replies.new.items ≡ replies.old.items }
     ensures room { OnOk result (vec_len replies.new < vec_capacity replies.new) }

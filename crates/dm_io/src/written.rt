@@ -20,6 +20,7 @@ pub fn write_text<W: Write>(writer: &mut W, text: &[u8]) -> io::Result<()>
     writer.flush()
 }
 
+/// Writes the octets. Where that fails, a front of them was written.
 fn write_octets<W: Write>(writer: &mut W, text: &[u8]) -> io::Result<()>
     ensures whole { OnOk result (Appends (W.contents writer.old) (W.contents writer.new) text.now) }
     ensures front { OnErr result ((front rest : List ℕ) × (text.now ≡ front ++ rest)

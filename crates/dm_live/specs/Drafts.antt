@@ -1,6 +1,6 @@
 -- What a draft says.
 use Rattle.std.specs.String.{string_bytes}
-use Rattle.dm_live.specs.declared.draft.Draft.{Draft}
+use Rattle.dm_live.specs.declared.configuration.Draft.{Draft}
 use Rattle.dm_live.specs.Settings.{Settings}
 
 abbrev pub settings_of : Draft → Settings

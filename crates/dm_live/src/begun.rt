@@ -8,7 +8,7 @@ ghost use Rattle.dm_live.specs.Served.{fault_answer};
 ghost use Rattle.dm_live.specs.Stages.{IsBegun};
 
 use crate::answer_lines::put_fault_answer;
-use crate::draft::Draft;
+use crate::configuration::Draft;
 use crate::form::Form;
 use crate::peers::node_with_peers;
 use dm_node::Node;

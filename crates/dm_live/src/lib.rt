@@ -5,7 +5,7 @@ mod answer;
 mod answer_lines;
 mod asked;
 mod begun;
-mod draft;
+mod configuration;
 mod fault;
 mod form;
 mod input;

@@ -11,7 +11,7 @@ ghost use Rattle.dm_live.specs.Stages.{stage_of};
 use crate::answer::answer_order;
 use crate::answer_lines::put_fault_answer;
 use crate::begun::{Begun, begin_configured};
-use crate::draft::Draft;
+use crate::configuration::Draft;
 use crate::form::Form;
 use crate::order_line::read_order;
 use crate::sender_lines::{put_sender_answer, read_sender_line};

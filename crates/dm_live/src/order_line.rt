@@ -79,7 +79,7 @@ pub fn read_order(alloc: Global, form: Form, line: &[u8]) -> Result<Option<Order
     }
 }
 
-/// The order of this name and what stands behind that.
+/// The order of this name and of the words behind that; None where these are others.
 fn read_named(form: Form, name: OrderName, left: &mut Words<'_>) -> Option<OrderLine>
     requires octets { name ≢ OrderName.Octets }
     requires submit { name ≢ OrderName.Submit }
@@ -107,7 +107,7 @@ fn read_named(form: Form, name: OrderName, left: &mut Words<'_>) -> Option<Order
     }
 }
 
-/// Each neighbour begins anew, the one alone too, or the one that is named.
+/// The order that each neighbour begins anew, or the one that is named; None where the words behind `reset` are others.
 fn read_reset(form: Form, left: &mut Words<'_>) -> Option<OrderLine>
     ensures told { IfSome result (λ o. TellsNamed form OrderName.Reset (told_order o) (words left.old)) }
     ensures none { IfNone result ((o : OneAsked)
@@ -120,7 +120,8 @@ fn read_reset(form: Form, left: &mut Words<'_>) -> Option<OrderLine>
     }
 }
 
-/// The neighbour that begins anew, or each of them.
+/// The order that of several neighbours the one that is named begins anew, or each of them; None where the words are
+/// others.
 fn read_reset_of_several(left: &mut Words<'_>) -> Option<OrderLine>
     ensures told { IfSome result (λ o.
         TellsNamed Form.Several OrderName.Reset (told_order o) (words left.old)) }
@@ -137,7 +138,7 @@ fn read_reset_of_several(left: &mut Words<'_>) -> Option<OrderLine>
     Some(OrderLine::Reset(index as usize))
 }
 
-/// A piece of octets that came on a connection, in hexadecimal.
+/// The piece that came on a connection, in hexadecimal; None where the words tell none.
 fn read_piece(
     alloc: Global,
     form: Form,
@@ -157,7 +158,7 @@ fn read_piece(
     }
 }
 
-/// A message of the user to a neighbour, in hexadecimal.
+/// The order to send a neighbour a message of the user, in hexadecimal; None where the words tell none.
 fn read_submit(
     alloc: Global,
     form: Form,

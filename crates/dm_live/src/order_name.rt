@@ -19,7 +19,7 @@ pub enum OrderName {
     Reset,
 }
 
-/// The order that is called by this word.
+/// The order that is called by this word; None where none is.
 pub(crate) fn read_order_name(word: &[u8]) -> Option<OrderName>
     ensures told { IfSome result (λ name. word.now ≡ name_word name) }
     ensures none { IfNone result ((name : OrderName) → word.now ≡ name_word name → ⊥) }

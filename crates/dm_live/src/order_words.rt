@@ -13,7 +13,7 @@ use dm_machine::Conn;
 use dm_text::{Words, read_long_number};
 use dm_words::{next_long_number, read_cause, word_alone};
 
-/// The number of a connection that the next word tells.
+/// The connection whose number the next word tells; None where it tells none.
 fn next_conn(left: &mut Words<'_>) -> Option<Conn>
     ensures told { IfSome result (λ c. (number : List ℕ) × (words left.old ≡ number ∷ words left.new)
         × TellsLongNumber c.0 number) }
@@ -24,7 +24,7 @@ fn next_conn(left: &mut Words<'_>) -> Option<Conn>
     Some(Conn(number))
 }
 
-/// The connection that the next word tells, where no other follows.
+/// The connection that the next word tells; None where it tells none, or another word follows.
 pub(crate) fn conn_alone(left: &mut Words<'_>) -> Option<Conn>
     ensures told { IfSome result (λ c. TellsConn c (words left.old)) }
     ensures none { IfNone result ((n : ℕ) (number : List ℕ) → words left.old ≡ number ∷ []
@@ -37,7 +37,7 @@ pub(crate) fn conn_alone(left: &mut Words<'_>) -> Option<Conn>
     Some(conn)
 }
 
-/// A connection and one word more.
+/// The connection that the next word tells, and the word behind it; None where there aren't just these two.
 pub(crate) fn conn_and_word<'a>(left: &mut Words<'a>) -> Option<(Conn, &'a [u8])>
     ensures told { IfSome result (λ r. (number : List ℕ) × (words left.old ≡ number ∷ r.1.now ∷ [])
         × TellsLongNumber r.0.0 number) }
@@ -49,7 +49,8 @@ pub(crate) fn conn_and_word<'a>(left: &mut Words<'a>) -> Option<(Conn, &'a [u8])
     Some((conn, word))
 }
 
-/// The neighbour that the next word names, where there are several; the one that is alone.
+/// The neighbour that the next word names, where there are several, else the one that is alone; None where none is
+/// named.
 fn next_neighbour(form: Form, left: &mut Words<'_>) -> Option<usize>
     ensures told { IfSome result (λ i. NamesNeighbour form i (words left.old) (words left.new)) }
     ensures none { IfNone result ((n : ℕ) (more : List (List ℕ)) → NamesNeighbour form n (words left.old) more
@@ -61,7 +62,7 @@ fn next_neighbour(form: Form, left: &mut Words<'_>) -> Option<usize>
     }
 }
 
-/// The neighbour of the order, where no other word follows.
+/// The neighbour of the order; None where none is named, or another word follows.
 pub(crate) fn neighbour_and_nothing(form: Form, left: &mut Words<'_>) -> Option<usize>
     ensures told { IfSome result (λ i. NamesNeighbour form i (words left.old) []) }
     ensures none { IfNone result ((n : ℕ) → NamesNeighbour form n (words left.old) [] → ⊥) }
@@ -70,7 +71,7 @@ pub(crate) fn neighbour_and_nothing(form: Form, left: &mut Words<'_>) -> Option<
     if none_left(left) { Some(index) } else { None }
 }
 
-/// A neighbour, and a connection.
+/// The neighbour of the order, and the connection behind it; None where the words are others.
 pub(crate) fn neighbour_and_conn(form: Form, left: &mut Words<'_>) -> Option<(usize, Conn)>
     ensures told { IfSome result (λ r. (more : List (List ℕ)) × NamesNeighbour form r.0 (words left.old) more
         × TellsConn r.1 more) }
@@ -82,7 +83,7 @@ pub(crate) fn neighbour_and_conn(form: Form, left: &mut Words<'_>) -> Option<(us
     Some((index, conn))
 }
 
-/// A neighbour, and the number of a cause.
+/// The neighbour of the order, and the cause whose number stands behind it; None where the words are others.
 pub(crate) fn neighbour_and_cause(form: Form, left: &mut Words<'_>) -> Option<(usize, Cause)>
     ensures told { IfSome result (λ r. (more : List (List ℕ)) × NamesNeighbour form r.0 (words left.old) more
         × (number : List ℕ) × (more ≡ number ∷ []) × TellsNumber (cause_number r.1) number) }
@@ -94,7 +95,7 @@ pub(crate) fn neighbour_and_cause(form: Form, left: &mut Words<'_>) -> Option<(u
     Some((index, cause))
 }
 
-/// A neighbour, and one word more.
+/// The neighbour of the order, and the word behind it; None where the words are others.
 pub(crate) fn neighbour_and_word<'a>(form: Form, left: &mut Words<'a>) -> Option<(usize, &'a [u8])>
     ensures told { IfSome result (λ r. NamesNeighbour form r.0 (words left.old) (r.1.now ∷ [])) }
     ensures none { IfNone result ((n : ℕ) (word : List ℕ)
@@ -105,7 +106,7 @@ pub(crate) fn neighbour_and_word<'a>(form: Form, left: &mut Words<'a>) -> Option
     Some((index, word))
 }
 
-/// The number of a cause alone.
+/// The cause whose number is the only word left; None where it isn't.
 pub(crate) fn cause_alone(left: &mut Words<'_>) -> Option<Cause>
     ensures told { IfSome result (λ cause. (number : List ℕ) × (words left.old ≡ number ∷ [])
         × TellsNumber (cause_number cause) number) }

@@ -8,7 +8,7 @@ ghost use Rattle.dm_live.specs.Beginnings.{IsConfiguredFor, BeginsForHosts, AreU
 ghost use Rattle.dm_live.specs.Drafts.{settings_of};
 ghost use Rattle.dm_live.specs.Joining.{AddsLike, RefusesHost};
 
-use crate::draft::{Draft, config_fault_name};
+use crate::configuration::{Draft, config_fault_name};
 use dm_node::{AddFault, Node};
 use dm_peer::Config;
 use std::alloc::{AllocError, Global};

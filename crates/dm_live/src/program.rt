@@ -63,7 +63,7 @@ fn has_no_words(words: &[String]) -> bool
     }
 }
 
-/// Answers the lines that the reader gives, where that is asked for.
+/// Answers the lines that the reader gives, where that is asked for; else None, and nothing is written.
 fn run_if_asked<R: Read + Drop, W: Write>(
     alloc: Global,
     is_asked: bool,

@@ -32,7 +32,7 @@ pub(crate) fn read_sender_line(form: Form, line: &[u8]) -> Option<usize>
     }
 }
 
-/// Appends a name and octets.
+/// Appends a line of a name and octets in hexadecimal.
 #[tactic(auto, unfolding(crate::specs::SenderLines::octets_line))]
 fn put_octets_line(text: &mut String, name: &str, octets: &[u8]) -> Result<(), AllocError>
     ensures { OnOk result (string_bytes text.new ≡ string_bytes text.old ++ octets_line name.now octets.now) }
@@ -41,7 +41,7 @@ fn put_octets_line(text: &mut String, name: &str, octets: &[u8]) -> Result<(), A
     put_octets_and_end(text, " ", octets)
 }
 
-/// Appends a name and a number.
+/// Appends a line of a name and a number.
 #[tactic(auto, unfolding(crate::specs::SenderLines::number_line))]
 fn put_number_line(text: &mut String, name: &str, number: u32) -> Result<(), AllocError>
     ensures { OnOk result (string_bytes text.new ≡ string_bytes text.old ++ number_line name.now number) }
@@ -50,7 +50,7 @@ fn put_number_line(text: &mut String, name: &str, number: u32) -> Result<(), All
     put_number_and_end(text, " ", u64::from(number))
 }
 
-/// Appends the name and the number, where there is one.
+/// Appends a line of the name and the number; nothing where there is no number.
 #[tactic(auto, unfolding(crate::specs::SenderLines::number_line_if_any, crate::specs::SenderLines::number_lines))]
 fn put_number_line_if_any(
     text: &mut String,
@@ -65,7 +65,7 @@ fn put_number_line_if_any(
     }
 }
 
-/// Appends the name and each number.
+/// Appends a line of the name and a number for each number.
 #[tactic(auto, unfolding(crate::specs::SenderLines::number_lines))]
 fn put_number_lines(text: &mut String, name: &str, numbers: &[u32]) -> Result<(), AllocError>
     ensures { OnOk result (string_bytes text.new ≡ string_bytes text.old ++ number_lines name.now numbers.now) }

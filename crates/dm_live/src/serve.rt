@@ -31,7 +31,7 @@ pub fn serve_lines<R: BufRead, W: Write>(
     done
 }
 
-/// Answers each line.
+/// Answers each line that the reader gives, up to the end of the input.
 fn answer_all_lines<R: BufRead, W: Write>(
     alloc: Global,
     live: &mut Live,

@@ -71,7 +71,7 @@ fn read_peer_setting(word: &[u8]) -> Option<SettingName>
     }
 }
 
-/// The setting that a word names.
+/// The setting that a word names; None where it names none.
 pub(crate) fn read_setting_name(word: &[u8]) -> Option<SettingName>
     ensures told { IfSome result (λ name. word.now ≡ setting_word name) }
     ensures none { IfNone result ((name : SettingName) → word.now ≡ setting_word name → ⊥) }
@@ -81,7 +81,8 @@ pub(crate) fn read_setting_name(word: &[u8]) -> Option<SettingName>
         .or(read_peer_setting(word))
 }
 
-/// Whether the word tells that an application of a vendor follows, and whether that is one of accounting.
+/// True where the word says that an accounting application of a vendor follows, false where another application of a
+/// vendor; None for any other word.
 pub(crate) fn read_vendor_application(word: &[u8]) -> Option<bool>
     ensures told { IfSome result (λ accounting. word.now ≡ specific_word accounting) }
     ensures none { IfNone result ((accounting : Bool) → word.now ≡ specific_word accounting → ⊥) }

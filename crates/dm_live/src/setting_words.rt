@@ -14,7 +14,7 @@ use std::alloc::AllocError;
 use std::net::IpAddr;
 use std::str;
 
-/// Any word is a name.
+/// Takes the word as the name, in place of the one said before. Any word is one, so it answers true.
 pub(crate) fn set_name(name: &mut Vec<u8>, word: &[u8]) -> Result<bool, AllocError>
     ensures put { OnOk result (name.new.items ≡ word.now) }
     ensures good { IfOk result (λ good. good ≡ true) }
@@ -24,7 +24,7 @@ pub(crate) fn set_name(name: &mut Vec<u8>, word: &[u8]) -> Result<bool, AllocErr
     Ok(true)
 }
 
-/// Any word is a name, which stands behind those said before.
+/// Puts the word as a name behind those said before. Any word is one, so it answers true.
 pub(crate) fn push_name(list: &mut Vec<Octets>, word: &[u8]) -> Result<bool, AllocError>
     ensures put { OnOk result (list.new.items ≡ list.old.items ++ word.now ∷ []) }
     ensures good { IfOk result (λ good. good ≡ true) }
@@ -34,7 +34,7 @@ pub(crate) fn push_name(list: &mut Vec<Octets>, word: &[u8]) -> Result<bool, All
     Ok(true)
 }
 
-/// A word of UTF-8 is a text.
+/// Takes the word as the text, in place of the one said before; false where it is no UTF-8.
 pub(crate) fn set_text(text: &mut String, word: &[u8]) -> Result<bool, AllocError>
     ensures put { IfOk result (λ good. good ≡ true → IsUtf8 word.now × (string_bytes text.new ≡ word.now)) }
     ensures bad { IfOk result (λ good. good ≡ false → IsUtf8 word.now → ⊥) }
@@ -50,7 +50,7 @@ pub(crate) fn set_text(text: &mut String, word: &[u8]) -> Result<bool, AllocErro
     }
 }
 
-/// The address that a word tells.
+/// The address that a word tells; None where it tells none.
 fn read_address(word: &[u8]) -> Option<Ip>
     ensures told { IfSome result (λ ip. TellsAddress ip word.now) }
     ensures none { IfNone result ((ip : AnIp) → TellsAddress ip word.now → ⊥) }
@@ -61,7 +61,7 @@ fn read_address(word: &[u8]) -> Option<Ip>
     }
 }
 
-/// An address stands behind those said before.
+/// Puts the address that the word tells behind those said before; false where it tells none.
 pub(crate) fn push_address(list: &mut Vec<Ip>, word: &[u8]) -> Result<bool, AllocError>
     ensures put { IfOk result (λ good. good ≡ true → (ip : AnIp) × TellsAddress ip word.now
         × (list.new.items ≡ list.old.items ++ ip ∷ [])) }
@@ -77,7 +77,7 @@ pub(crate) fn push_address(list: &mut Vec<Ip>, word: &[u8]) -> Result<bool, Allo
     }
 }
 
-/// A number takes the place of the one said before.
+/// Takes the number that the word tells in place of the one said before; false where it tells none.
 pub(crate) fn set_number(number: &mut u32, word: &[u8]) -> bool
     ensures put { result ≡ true → TellsNumber number.new word.now }
     ensures bad { result ≡ false → (n : ℕ) → TellsNumber n word.now → ⊥ }
@@ -92,7 +92,7 @@ pub(crate) fn set_number(number: &mut u32, word: &[u8]) -> bool
     }
 }
 
-/// A number takes the place of the one said before, if there was one.
+/// Takes the number that the word tells in place of the one said before, if there was one; false where it tells none.
 pub(crate) fn set_optional_number(number: &mut Option<u32>, word: &[u8]) -> bool
     ensures put { result ≡ true → (n : ℕ) × TellsNumber n word.now × (number.new ≡ Some n) }
     ensures bad { result ≡ false → (n : ℕ) → TellsNumber n word.now → ⊥ }
@@ -107,7 +107,7 @@ pub(crate) fn set_optional_number(number: &mut Option<u32>, word: &[u8]) -> bool
     }
 }
 
-/// A number stands behind those said before.
+/// Puts the number that the word tells behind those said before; false where it tells none.
 pub(crate) fn push_number(list: &mut Vec<u32>, word: &[u8]) -> Result<bool, AllocError>
     ensures put { IfOk result (λ good. good ≡ true → (n : ℕ) × TellsNumber n word.now
         × (list.new.items ≡ list.old.items ++ n ∷ [])) }

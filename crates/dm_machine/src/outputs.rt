@@ -58,12 +58,14 @@ pub enum Refusal {
     NotOpen,
 }
 
+/// The orders of a step that gives none.
 pub fn none() -> Commands
     ensures { result.items ≡ [] }
 {
     ArrayVec::new()
 }
 
+/// The one order of a step.
 pub fn one(first: Command) -> Commands
     ensures { result.items ≡ first ∷ [] }
 {
@@ -72,6 +74,7 @@ pub fn one(first: Command) -> Commands
     commands
 }
 
+/// The two orders of a step, in the order in which they are to be carried out.
 pub fn two(first: Command, second: Command) -> Commands
     ensures { result.items ≡ first ∷ second ∷ [] }
 {
@@ -80,6 +83,7 @@ pub fn two(first: Command, second: Command) -> Commands
     commands
 }
 
+/// The three orders of a step, in the order in which they are to be carried out.
 pub fn three(first: Command, second: Command, third: Command) -> Commands
     ensures { result.items ≡ first ∷ second ∷ third ∷ [] }
 {

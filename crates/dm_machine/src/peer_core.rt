@@ -64,7 +64,7 @@ impl Core {
         }
     }
 
-    /// The connection that this peer opened.
+    /// The connection that this peer opened, where it holds one.
     pub fn initiated(&self) -> Option<Conn>
         ensures { result ≡ held_as Initiated self.now.held }
     {
@@ -80,7 +80,7 @@ impl Core {
         }
     }
 
-    /// The connection that the other side opened.
+    /// The connection that the other side opened, where it holds one.
     pub fn accepted(&self) -> Option<Conn>
         ensures { result ≡ held_as Accepted self.now.held }
     {

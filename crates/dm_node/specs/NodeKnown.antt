@@ -12,7 +12,7 @@ use Rattle.dm_node.specs.Telling.{IsAddressed}
 use Rattle.dm_peer.specs.declared.peer.Peer.{Peer}
 use Rattle.dm_slots.specs.Acquaintances.{Acquaintance, nobody, spells_exchange, known_at, known_after}
 use Rattle.dm_slots.specs.Intakes.{Intake, IsFirst}
-use Rattle.dm_node.specs.declared.known.Acquaintances as declared
+use Rattle.dm_node.specs.declared.acquaintances.Acquaintances as declared
 use Rattle.dm_node.specs.NodeStates.{NodeState, NodeAnswer, NodeTurn}
 
 -- what is known of the neighbours, a place for each of theirs

@@ -26,7 +26,7 @@ fn is_origin_host(avp: AvpRef<'_>) -> bool
     avp.code == ORIGIN_HOST && avp.vendor.is_none()
 }
 
-/// The data of the first Origin-Host.
+/// The data of the first Origin-Host; None where there is none.
 fn calling_host<'a>(avps: AvpsRef<'a>) -> Option<&'a [u8]>
     ensures { (l : List Avp) → Lists avps.entry l → option_copied result ≡ calling_host l }
 {
@@ -47,14 +47,14 @@ fn is_cer(header: &Header) -> bool
     header.command == CAPABILITIES_EXCHANGE && header.request
 }
 
-/// Octets that spell AVPs are those AVPs.
+/// Does nothing: its contract says that octets which spell AVPs are read as those.
 fn spells_list(octets: &[u8])
     ensures { (l : List Avp) → SpellsList l octets.now → members octets.now ≡ Some l }
 {
     members_spell();
 }
 
-/// The header of a message that is a CER, and the host that it says it is from.
+/// The header of a message that is a CER, and the host that it says it is from. None where it is no CER, or names none.
 fn caller_in<'a>(message: &MessageRef<'a>) -> Option<(Header, &'a [u8])>
     ensures found { (l : List Avp) → SpellsList l message.now.rest.now → IfSome result (λ r.
         caller_in (Some (record { header = message.now.header; avps = l })) ≡ Some (r.0, r.1.now)) }
@@ -71,7 +71,8 @@ fn caller_in<'a>(message: &MessageRef<'a>) -> Option<(Header, &'a [u8])>
     }
 }
 
-/// The header of a CER, and the host that it says it is from. It never answers want of memory.
+/// The header of a CER, and the host that it says it is from. None where the octets are no CER, or it names none. It
+/// never answers want of memory.
 pub(crate) fn caller<'a>(octets: &'a [u8]) -> Option<(Header, &'a [u8])>
     ensures found { IfSome result (λ r. caller_of octets.now ≡ Some (r.0, r.1.now)) }
     ensures none { IfNone result (caller_of octets.now ≡ None) }
@@ -82,7 +83,8 @@ pub(crate) fn caller<'a>(octets: &'a [u8]) -> Option<(Header, &'a [u8])>
     }
 }
 
-/// What a stranger is answered on the connection; or want of memory, which only the answer to a CER takes.
+/// What is done on a stranger's connection: an answer 3010 (DIAMETER_UNKNOWN_PEER) to a CER, and a Close. Only the
+/// answer may want memory.
 pub(crate) fn answer_to(
     alloc: Global,
     own: &Node,

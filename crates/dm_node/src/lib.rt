@@ -2,34 +2,34 @@
 //! it concerns, and does there what it does to a peer of its own.
 #![tactic(auto)]
 
-mod adding;
+mod acquaintances;
 mod alone;
 mod answer;
 mod calling;
 mod counting;
-mod driving;
-mod emptying;
 mod events;
 mod fault;
 mod hearing;
 mod hosts;
-mod known;
 pub mod laws;
-mod looking;
 mod meeting;
 mod membership;
 mod neighbours;
+mod newcomer;
 mod node;
-mod offering;
+mod offered_config;
 mod one_told;
 mod order;
 mod owners;
+mod peer_by_number;
+mod removal_and_reset;
+mod reserved_place;
 mod routing;
 mod settling;
 mod strangers;
+mod taken_orders;
 mod telling;
 mod unknown;
-mod welcoming;
 
 pub use alone::Alone;
 pub use answer::{Answer, Told};

@@ -6,7 +6,7 @@ ghost use Rattle.dm_node.specs.NodeKnown.{known_of, HasSparePlace, with_known, g
 ghost use Rattle.dm_peer.specs.declared.peer.Peer.{Peer as OnePeer};
 ghost use Rattle.dm_slots.specs.Acquaintances.{is_exchange_to, known_after, known_if_any};
 
-use crate::known::Acquaintances;
+use crate::acquaintances::Acquaintances;
 use crate::neighbours::Neighbours;
 use dm_machine::{Conn, State};
 use dm_slots::is_exchange;
@@ -35,8 +35,8 @@ pub(crate) fn copy_exchange(
     }
 }
 
-/// What is known behind what came on the connection, of the neighbour of the number that was told it, if one was. Of
-/// one that was open it stays.
+/// Changes what is known of the neighbour that was told what came on the connection: `who`, if one was. What is known
+/// of one that was open before stays.
 pub(crate) fn meet_behind(
     neighbours: &Neighbours,
     known: &mut Acquaintances,
@@ -63,8 +63,8 @@ pub(crate) fn meet_behind(
     }
 }
 
-/// What is known behind an event that brought no message, of the neighbour of the number that was told it, if one was.
-/// Of one that was open it stays.
+/// Changes what is known of the neighbour that was told an event that brought no message: `who`, if one was. What is
+/// known of one that was open before stays.
 pub(crate) fn meet_after(
     neighbours: &Neighbours,
     known: &mut Acquaintances,

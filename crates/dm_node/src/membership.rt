@@ -16,7 +16,7 @@ ghost use Rattle.dm_node.specs.NodeKnown.{known_of, with_nobody, without_known};
 ghost use Rattle.dm_node.specs.NodeSeen.{node_state_of, node_known_of};
 ghost use Rattle.dm_node.specs.NodeStates.{with_node_peers};
 
-use crate::known::Acquaintances;
+use crate::acquaintances::Acquaintances;
 use crate::neighbours::{Neighbours, neighbours_are_sound};
 use crate::owners::Holding;
 use crate::{AddFault, Answer, Node};
@@ -24,7 +24,7 @@ use dm_machine::Conn;
 use dm_peer::{Action, Actions, Config};
 use dm_slots::Slots;
 
-/// The connection, if it is one, is no more there.
+/// Forgets the connection, if there is one.
 fn shut_if_any(intakes: &mut Slots, conn: Option<Conn>)
     ensures owners { (c : Conn) → owners_of intakes.new c.0
         ≡ (if is_on conn c then None else owners_of intakes.old c.0) }
@@ -36,7 +36,7 @@ fn shut_if_any(intakes: &mut Slots, conn: Option<Conn>)
     }
 }
 
-/// What is held is no more there.
+/// Forgets the connections that are held.
 fn shut_held(intakes: &mut Slots, held: Holding)
     ensures owners { (c : Conn) → owners_of intakes.new c.0
         ≡ (if has held c then None else owners_of intakes.old c.0) }
@@ -47,7 +47,7 @@ fn shut_held(intakes: &mut Slots, held: Holding)
     shut_if_any(intakes, held.accepted);
 }
 
-/// A Close of the connection, if it is one.
+/// Appends a Close of the connection; nothing where there is none.
 fn push_close(actions: &mut Actions, conn: Option<Conn>)
     requires { length actions.old.items < 3 }
     ensures { actions.new.items ≡ actions.old.items ++ close_if_any conn }
@@ -57,7 +57,8 @@ fn push_close(actions: &mut Actions, conn: Option<Conn>)
     }
 }
 
-/// Why no neighbour of this configuration can be added where memory is wanted for it.
+/// Why a neighbour of this configuration isn't added where memory is wanted: `Known` where a neighbour has its host,
+/// else `NoMemory`.
 fn add_fault(neighbours: &Neighbours, config: &Config) -> AddFault
     ensures known { (result ≡ add_faults.Known) ↔ IsKnown neighbours.now config.now.peer }
     ensures refuses { (result ≡ add_faults.Known) ⊎ (result ≡ add_faults.NoMemory) }
@@ -68,7 +69,8 @@ fn add_fault(neighbours: &Neighbours, config: &Config) -> AddFault
     }
 }
 
-/// Adds a closed neighbour of this configuration, who met nobody.
+/// Adds a closed neighbour of this configuration, who met nobody, and returns its number. Behind an `Err` all is as it
+/// was.
 fn add_neighbour(
     neighbours: &mut Neighbours,
     known: &mut Acquaintances,

@@ -3,12 +3,12 @@ ghost use Rattle.dm_node.specs.Neighbourhoods.{IsNeighbourhood};
 ghost use Rattle.dm_node.specs.NodeHeld.{AreKept};
 
 use crate::AddFault;
-use crate::adding::reserve_place;
 use crate::counting::{count_added, count_removed};
-use crate::emptying::{set_back_one, set_back_peers, take_out};
 use crate::hosts::Hosts;
-use crate::looking::peer_at;
 use crate::owners::{Holding, Snapshot, any_holding};
+use crate::peer_by_number::peer_at;
+use crate::removal_and_reset::{set_back_one, set_back_peers, take_out};
+use crate::reserved_place::reserve_place;
 use dm_peer::laws::{each_event_keeps_settled, each_send_is_spelled, every_peer_is_kept};
 use dm_peer::{Config, Conn, Peer, State};
 use std::alloc::Global;
@@ -156,7 +156,7 @@ impl Neighbours {
         any_holding(self.peer(index))
     }
 
-    /// The neighbour whose an event is, where it is of one. It never answers want of memory.
+    /// The neighbour that an event concerns; None where it concerns none. It never answers want of memory.
     pub(crate) fn concerned(&self, who: Option<usize>) -> Option<&Peer>
         ensures { option_copied result ≡ concerned_in self.now who }
     {
@@ -166,8 +166,8 @@ impl Neighbours {
         }
     }
 
-    /// What the neighbour is whose an event is; Closed, with nothing held, where it is of none. It never answers want
-    /// of memory.
+    /// The state of the neighbour that an event concerns, and what it holds; Closed, with nothing held, where it
+    /// concerns none. It never answers want of memory.
     pub(crate) fn snapshot(&self, who: Option<usize>) -> Snapshot
         ensures state { result.state ≡ peer_state (concerned_in self.now who) }
         ensures held { (c : Conn) → has result.held c ≡ holds_it c (concerned_in self.now who) }

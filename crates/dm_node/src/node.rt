@@ -4,7 +4,7 @@ ghost use Rattle.dm_node.specs.Owning.{AreOwned};
 ghost use Rattle.dm_node.specs.NodeHeld.{AllHeldAreThere};
 ghost use Rattle.dm_node.specs.NodeKnown.{known_of, AreKnown};
 
-use crate::known::Acquaintances;
+use crate::acquaintances::Acquaintances;
 use crate::neighbours::Neighbours;
 use crate::settling::settle;
 use crate::telling::{tell_event, tell_message};

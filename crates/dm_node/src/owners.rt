@@ -29,7 +29,7 @@ pub(crate) struct Snapshot {
     pub(crate) held: Holding,
 }
 
-/// Whether both are the same connection, or none.
+/// True only where both are the same connection, or there is neither.
 fn is_same_conn(one: Option<Conn>, other: Option<Conn>) -> bool
     ensures { result ≡ true → one ≡ other }
 {
@@ -40,7 +40,7 @@ fn is_same_conn(one: Option<Conn>, other: Option<Conn>) -> bool
     }
 }
 
-/// Whether the same connections are held, each as it was.
+/// True only where the same connections are held, each as it was.
 fn is_unchanged(before: Holding, after: Holding) -> bool
     ensures { result ≡ true → before ≡ after }
 {
@@ -78,7 +78,7 @@ pub(crate) fn any_holding(peer: Option<&Peer>) -> Holding
     }
 }
 
-/// What was held before is nobody's, and what is held is of the neighbour of the number.
+/// Notes that what was held before is nobody's, and that what is held after belongs to the neighbour of the number.
 fn change_owners(slots: &mut Slots, before: Holding, after: Holding, index: usize)
     requires there { (c : Conn) → has after c ≡ true → is_there c.0 (intakes_of slots.old) ≡ true }
     ensures intakes { intakes_of slots.new ≡ intakes_of slots.old }
@@ -90,7 +90,8 @@ fn change_owners(slots: &mut Slots, before: Holding, after: Holding, index: usiz
     slots.own(after.accepted, index);
 }
 
-/// The neighbour of the number, if one was told something, held this before, and holds this now.
+/// Notes what the neighbour that was told something owns: it held `before`, and holds `after` now. Nothing where nobody
+/// was told.
 #[inline(always)]
 pub(crate) fn reown(slots: &mut Slots, before: Holding, after: Holding, who: Option<usize>)
     requires there { (c : Conn) → has after c ≡ true → is_there c.0 (intakes_of slots.old) ≡ true }

@@ -1,4 +1,4 @@
-//! Whose an event is.
+//! Which neighbour an event concerns.
 ghost use Rattle.std.specs.Prelude.{◌≡◌, ℕ, true, false, None, Some, Err, IsSome, IfOk, IfErr, IfSome, IfNone};
 ghost use Rattle.dm_node.specs.Holding.{peer_at, holds_at};
 ghost use Rattle.dm_node.specs.Owning.{AreOwned};
@@ -32,7 +32,7 @@ pub(crate) fn peer_event<'a>(event: NodeEvent<'a>) -> Event<'a>
     }
 }
 
-/// The neighbour whose host's CER the octets are.
+/// The neighbour whose host's CER the octets are; None where they are no neighbour's.
 fn calling_neighbour(neighbours: &Neighbours, octets: &[u8]) -> Option<usize>
     ensures there { IfSome result (λ i. IsSome (peer_at neighbours.now i)) }
     ensures found { IfSome result (IsCallOf neighbours.now octets.now) }
@@ -59,7 +59,8 @@ fn porter<S: Strangers>(neighbours: &Neighbours, strangers: &S) -> Option<usize>
     }
 }
 
-/// The neighbour that octets on a connection that nobody holds are for.
+/// The neighbour that octets on a connection that nobody holds are for: the one whose host's CER they are, else the
+/// porter; None where there is neither.
 fn caller_or_porter<S: Strangers>(
     neighbours: &Neighbours,
     strangers: &S,
@@ -76,7 +77,7 @@ fn caller_or_porter<S: Strangers>(
     }
 }
 
-/// The neighbour that holds the connection.
+/// The neighbour that holds the connection; None where none does.
 fn holder(neighbours: &Neighbours, slots: &Slots, conn: Conn) -> Option<usize>
     requires { AreOwned (owners_of slots.now) neighbours.now }
     ensures there { IfSome result (λ i. IsSome (peer_at neighbours.now i)) }
@@ -87,7 +88,7 @@ fn holder(neighbours: &Neighbours, slots: &Slots, conn: Conn) -> Option<usize>
     slots.owner(conn)
 }
 
-/// The neighbour that octets on a connection are for.
+/// The neighbour that octets on a connection are for; None where they are for none.
 fn addressed_neighbour<S: Strangers>(
     neighbours: &Neighbours,
     slots: &Slots,
@@ -107,7 +108,7 @@ fn addressed_neighbour<S: Strangers>(
     }
 }
 
-/// The number, where a neighbour has it.
+/// The number, where a neighbour has it, else `NoNeighbour`.
 fn neighbour_numbered(neighbours: &Neighbours, index: usize) -> Result<Option<usize>, OrderFault>
     ensures found { IfOk result (λ o. (o ≡ Some index) × IsSome (peer_at neighbours.now index)) }
     ensures fault { IfErr result (λ f. (f ≡ NoNeighbour) × (peer_at neighbours.now index ≡ None)) }
@@ -118,7 +119,7 @@ fn neighbour_numbered(neighbours: &Neighbours, index: usize) -> Result<Option<us
     }
 }
 
-/// Whose the event is: of one neighbour, or of none.
+/// The neighbour that the event concerns; None where it concerns none, `NoNeighbour` where nobody has the number in it.
 #[inline(always)]
 pub(crate) fn concerned_neighbour<S: Strangers>(
     neighbours: &Neighbours,

@@ -15,9 +15,8 @@ use crate::owners::{Holding, reown};
 use dm_slots::Slots;
 use dm_slots::laws::what_is_there_stays;
 
-/// Behind an event that was told: its neighbour, if it is of one, holds what it holds now, and held this before; what
-/// the answer closes is no more there; and what the neighbour holds takes messages of at most `most` octets where it
-/// is open.
+/// Brings the connections up to date once an event was told: notes what its neighbour owns, which held `before`,
+/// forgets what the answer closes, and lets what an open neighbour holds take messages of at most `most` octets.
 #[inline(always)]
 pub(crate) fn settle(
     neighbours: &Neighbours,

@@ -17,7 +17,7 @@ ghost use Rattle.dm_slots.specs.Held.{owners_of};
 ghost use Rattle.dm_slots.specs.Intakes.{Intakes as AllIntakes, actions_close};
 ghost use Rattle.dm_slots.specs.Naming.{NamesThere};
 
-use crate::known::Acquaintances;
+use crate::acquaintances::Acquaintances;
 use crate::meeting::{copy_exchange, meet_after, meet_behind};
 use crate::neighbours::{Neighbours, neighbours_are_sound};
 use crate::one_told::tell_one;
@@ -105,8 +105,8 @@ fn tell_neighbours<S: Strangers>(
 }
 
 /// Tells the neighbours the message that came on the connection, by the policy for strangers, puts what it comes to
-/// into `answer`, whose actions are none before, and keeps whom it met. The CER or CEA is copied first, so
-/// that behind an `Err` all is as it was.
+/// into `answer`, whose actions are none before, and keeps whom it met. Returns what its neighbour held before. The CER
+/// or CEA is copied first, so that behind an `Err` all is as it was.
 pub(crate) fn tell_message<S: Strangers>(
     alloc: Global,
     own: &Node,
@@ -164,8 +164,9 @@ pub(crate) fn tell_message<S: Strangers>(
     }
 }
 
-/// Tells the neighbours an event that is no stranger's CER, as `tell_neighbours` does, and keeps whom the end of an
-/// election met by it.
+/// Tells the neighbours an event that is no stranger's CER, puts what it comes to into `answer`, whose actions are none
+/// before, and keeps whom the end of an election met by it. Returns what its neighbour held before; behind an `Err` the
+/// neighbours and whom they met are as they were.
 pub(crate) fn tell_event<S: Strangers>(
     alloc: Global,
     own: &Node,

@@ -9,8 +9,8 @@ ghost use Rattle.dm_peer.specs.declared.fault.PeerFault.TheVariants as peer_faul
 
 use crate::calling::answer_to;
 use crate::neighbours::Neighbours;
-use crate::offering::offered_config;
-use crate::welcoming::welcome;
+use crate::newcomer::welcome;
+use crate::offered_config::offered_config;
 use crate::{Answer, NodeEvent, OrderFault, Strangers};
 use arrayvec::ArrayVec;
 use dm_base::Node;
@@ -26,7 +26,7 @@ pub(crate) struct StrangerActions {
     pub(crate) actions: Actions,
 }
 
-/// A stranger is answered, where the octets are a CER, and closed.
+/// What turns a stranger away: an answer where the octets are a CER, and a Close.
 fn turn_away(
     alloc: Global,
     own: &Node,

@@ -69,10 +69,11 @@ pub fn octets_are_frames()
     spelled_is_framed();
 }
 
-/// What each clean run of two such peers comes to. One course is put in, up to what is still to come: a CER on each
-/// connection that a taken Start made, from its opener; where both sides started, the winner's disconnect of its
-/// own; the CEA on the connection that the election keeps; and the disconnect that answers the winner's. Where a
-/// Start is taken and it falls quiet, all of it was put in, and both are open on that connection (5.6.4).
+/// What each clean run (of Starts, Acks, deliveries and pieces alone) comes to of two closed peers that are configured
+/// for each other, from where nothing is under way. One course is put in, up to what is still to come: a CER on each
+/// connection that a taken Start made, from its opener; where both sides started, the winner's disconnect of its own;
+/// the CEA on the connection that the election keeps; and the disconnect that answers the winner's. Where a Start is
+/// taken and it falls quiet, all of it was put in, and both are open on that connection (5.6.4).
 pub fn each_octet_run_settles()
     ensures { EachOctetRunSettles }
 {
@@ -80,8 +81,10 @@ pub fn each_octet_run_settles()
     octets_are_electing();
 }
 
-/// Such a run falls quiet, in whatever order things come: it is quiet where no Ack and no delivery is done any more,
-/// after nine steps, and where one side alone starts after four. A piece that ends no message is no step.
+/// A clean run (of Starts, Acks, deliveries and pieces alone) of two closed peers that are configured for each other,
+/// from where nothing is under way, falls quiet, in whatever order things come: it is quiet where no Ack and no
+/// delivery is done any more, after nine steps, and where one side alone starts after four. A piece that ends no
+/// message is no step.
 pub fn each_octet_run_falls_quiet()
     ensures { EachOctetRunFallsQuiet }
 {
@@ -89,8 +92,9 @@ pub fn each_octet_run_falls_quiet()
     octets_are_electing();
 }
 
-/// Such a run can fall quiet: after some Acks and deliveries, with its own steps nine at most, nothing is under way,
-/// and both are open on the connection that the election keeps (5.6.4).
+/// A clean run (of Starts, Acks, deliveries and pieces alone) of two closed peers that are configured for each other,
+/// from where nothing is under way, can fall quiet: after some Acks and deliveries, with its own steps nine at most,
+/// nothing is under way, and both are open on the connection that the election keeps (5.6.4).
 pub fn each_octet_run_can_fall_quiet()
     ensures { EachOctetRunCanFallQuiet }
 {
@@ -98,9 +102,9 @@ pub fn each_octet_run_can_fall_quiet()
     octets_are_electing();
 }
 
-/// From each sound world of two such peers, whatever happened before, both sides can restart, and after some
-/// deliveries a Start of either side, the Ack and two deliveries open both on the connection that it makes. A list
-/// that does it exists, which isn't to say that peers take it by themselves.
+/// From each sound world of two peers that are configured for each other, whatever happened before, both sides can
+/// restart, and after some deliveries a Start of either side, the Ack and two deliveries open both on the connection
+/// that it makes. A list that does it exists, which isn't to say that peers take it by themselves.
 pub fn each_octet_world_can_open()
     ensures { EachOctetWorldCanOpen }
 {
@@ -109,7 +113,9 @@ pub fn each_octet_world_can_open()
     octets_are_electing();
 }
 
-/// So it is after any list of happenings to two new peers: no run is a trap.
+/// After any list of happenings to two new peers that are configured for each other both sides can restart, and after
+/// some deliveries a Start of either side, the Ack and two deliveries open both on the connection that it makes: no run
+/// is a trap.
 pub fn each_octet_run_can_open()
     ensures { EachOctetRunCanOpen }
 {
@@ -120,9 +126,9 @@ pub fn each_octet_run_can_open()
     octets_are_a_machine();
 }
 
-/// In each sound world of two such peers in which nothing is under way, whatever happened before, both are Closed, or
-/// each stands on one connection alone, the same one, in opposite roles: none is in Wait-Conn-Ack,
-/// Wait-Conn-Ack/Elect or Wait-Returns (5.6).
+/// In each sound world of two peers that are configured for each other in which nothing is under way, whatever happened
+/// before, both are Closed, or each stands on one connection alone, the same one, in opposite roles: none is in
+/// Wait-Conn-Ack, Wait-Conn-Ack/Elect or Wait-Returns (5.6).
 pub fn octet_quiet_is_joined()
     ensures { OctetQuietIsJoined }
 {
@@ -130,7 +136,9 @@ pub fn octet_quiet_is_joined()
     octets_are_electing();
 }
 
-/// So it is wherever a run of two new peers falls quiet.
+/// Wherever a run of two new peers that are configured for each other falls quiet, whatever was lost and restarted,
+/// both are Closed, or each stands on one connection alone, the same one, in opposite roles: none is in Wait-Conn-Ack,
+/// Wait-Conn-Ack/Elect or Wait-Returns (5.6).
 pub fn each_octet_quiet_run_is_joined()
     ensures { EachOctetQuietRunIsJoined }
 {
@@ -197,8 +205,8 @@ pub fn each_octet_run_delivers()
     octets_carry();
 }
 
-/// What such peers hand up at an event are the octets that it brings, once, or nothing: nothing is handed up but where
-/// a message arrives.
+/// What two new peers, whatever their configurations, hand up at an event of any list of happenings are the octets that
+/// it brings, once, or nothing: nothing is handed up but where a message arrives.
 pub fn each_octet_run_hands_up_what_came()
     ensures { EachOctetRunHandsUpWhatCame }
 {

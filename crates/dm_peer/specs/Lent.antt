@@ -2,7 +2,7 @@
 use Rattle.std.specs.Prelude.{Option, option_map}
 use Rattle.std.specs.Borrow.{Bor}
 use Rattle.std.specs.Option.{option_copied}
-use Rattle.dm_peer.specs.declared.reading.HeardRef.{HeardRef}
+use Rattle.dm_peer.specs.declared.heard_message.HeardRef.{HeardRef}
 use Rattle.dm_peer.specs.Said.{Heard, heard_of}
 
 -- what the parts that are lent stand for, where something was heard

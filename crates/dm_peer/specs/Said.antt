@@ -21,7 +21,7 @@ use Rattle.dm_machine.specs.declared.inputs.Word.{Word}
 use Rattle.dm_machine.specs.declared.inputs.Word.TheVariants.{Unreadable, Cer, CerRefused, Cea, CeaFailed, Dwr}
 use Rattle.dm_machine.specs.declared.inputs.Word.TheVariants.{DwrBad, Dwa, DwaBad, Dpr, DprBad, Dpa, DpaBad, Other}
 use Rattle.dm_peer.specs.declared.config.Config.{Config}
-use Rattle.dm_peer.specs.declared.reading.HeardRef.{HeardRef}
+use Rattle.dm_peer.specs.declared.heard_message.HeardRef.{HeardRef}
 use Rattle.dm_peer.specs.Hosts.{is_same_host}
 use Rattle.dm_wire.specs.Whole.{message_in}
 

@@ -1,12 +1,8 @@
-//! What the commands of a step send, and what was heard, as far as the numbers of a peer go by it.
+//! The requests that the commands of a step send, by which the numbers of a peer go.
 ghost use Rattle.std.specs.Prelude.{◌≡◌};
-ghost use Rattle.dm_peer.specs.Lent.{heard_by};
-ghost use Rattle.dm_peer.specs.Said.{word_heard, header_heard};
 ghost use Rattle.dm_peer.specs.After.{request_of, request_in};
 
-use crate::reading::HeardRef;
-use dm_machine::{Command, Word};
-use dm_wire::Header;
+use dm_machine::Command;
 
 /// A request that takes a number.
 #[derive(Clone, Copy)]
@@ -16,7 +12,7 @@ pub(crate) enum Request {
     Dpr,
 }
 
-/// The request that the command sends.
+/// The request that the command sends; None where it sends none.
 fn request_of_command(command: Command) -> Option<Request>
     ensures { result ≡ request_of command }
 {
@@ -28,7 +24,7 @@ fn request_of_command(command: Command) -> Option<Request>
     }
 }
 
-/// The first request that the commands send.
+/// The first request that the commands send; None where they send none.
 pub(crate) fn first_request(commands: &[Command]) -> Option<Request>
     ensures { result ≡ request_in commands.now }
 {
@@ -40,24 +36,4 @@ pub(crate) fn first_request(commands: &[Command]) -> Option<Request>
         left = rest;
     }
     None
-}
-
-/// The word of what was heard.
-pub(crate) fn word_heard(heard: Option<&HeardRef<'_>>) -> Word
-    ensures { result ≡ word_heard (heard_by heard.entry) }
-{
-    match heard {
-        Some(heard) => heard.word,
-        None => Word::Unreadable,
-    }
-}
-
-/// The header of what was heard.
-pub(crate) fn header_heard(heard: Option<&HeardRef<'_>>) -> Option<Header>
-    ensures { result ≡ header_heard (heard_by heard.entry) }
-{
-    match heard {
-        Some(heard) => Some(*heard.header),
-        None => None,
-    }
 }

@@ -40,7 +40,7 @@ pub fn is_same_host(one: &[u8], other: &[u8]) -> bool
     }
 }
 
-/// Why a node of this host can't have this peer.
+/// Why a node of this host can't have this peer; None where it can.
 fn fault_of_hosts(host: &[u8], peer: &[u8]) -> Option<ConfigFault>
     ensures { result ≡ config_fault host.now peer.now }
 {

@@ -3,18 +3,18 @@
 #![tactic(auto)]
 
 mod actions;
-mod answer;
 mod arrivals;
+mod command_actions;
 mod commands;
 mod config;
 mod events;
 mod fault;
+mod heard_message;
 mod kept_peer;
 pub mod laws;
-mod leaving;
 mod message;
+mod next_standing;
 mod peer;
-mod reading;
 mod sending;
 mod shared;
 mod standing;

@@ -34,7 +34,7 @@ pub struct Peer {
     pub(crate) standing: Kept,
 }
 
-/// Lets go what a refused event put in.
+/// Drops the actions that a refused event put in.
 // (It is rare, and in a function of its own in the machine's code too.)
 #[inline(never)]
 fn drop_actions(actions: Actions) {

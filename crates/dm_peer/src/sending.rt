@@ -18,7 +18,7 @@ use dm_machine::Conn;
 use dm_wire::{Avp, Header, Message, Octets};
 use std::alloc::Global;
 
-/// The message is to be sent: the action is appended. Or want of memory.
+/// Appends the sending of the message; or want of memory.
 pub(crate) fn push_send(
     alloc: Global,
     conn: Conn,
@@ -33,7 +33,7 @@ pub(crate) fn push_send(
     Ok(())
 }
 
-/// A CER with the next number is to be sent.
+/// Appends the sending of a CER with the next number; or want of memory.
 #[inline(never)]
 pub(crate) fn push_send_cer(
     alloc: Global,
@@ -48,7 +48,7 @@ pub(crate) fn push_send_cer(
     push_send(alloc, conn, cer(alloc, node, next)?, actions)
 }
 
-/// A DWR with the next number is to be sent.
+/// Appends the sending of a DWR with the next number; or want of memory.
 #[inline(never)]
 pub(crate) fn push_send_dwr(
     alloc: Global,
@@ -63,7 +63,7 @@ pub(crate) fn push_send_dwr(
     push_send(alloc, conn, dwr(alloc, node, next)?, actions)
 }
 
-/// A DPR with the next number is to be sent.
+/// Appends the sending of a DPR with the next number for this cause; or want of memory.
 #[inline(never)]
 pub(crate) fn push_send_dpr(
     alloc: Global,
@@ -79,7 +79,7 @@ pub(crate) fn push_send_dpr(
     push_send(alloc, conn, dpr(alloc, node, next, cause)?, actions)
 }
 
-/// A CEA of success is to be sent.
+/// Appends the sending of a CEA of success to a request of this header; or want of memory.
 #[inline(never)]
 pub(crate) fn push_send_cea(
     alloc: Global,
@@ -107,7 +107,7 @@ fn dwa_or_dpa_octets(alloc: Global, node: &Node, to: &Header) -> Result<Octets, 
     }
 }
 
-/// A DWA or DPA of success is to be sent.
+/// Appends the sending of a DWA or DPA of success to a request of this header; or want of memory.
 pub(crate) fn push_send_success(
     alloc: Global,
     conn: Conn,

@@ -23,12 +23,12 @@ ghost use Rattle.dm_peer.specs.Faults.{fault_of};
 ghost use Rattle.dm_peer.specs.Places.{footing_of};
 ghost use Rattle.dm_peer.specs.Lent.{heard_by};
 
-use crate::answer::push_actions;
 use crate::arrivals::{Footing, connection_footing, is_dropped, is_unread};
-use crate::commands::{first_request, word_heard};
-use crate::leaving::set_standing_after_step;
+use crate::command_actions::push_actions;
+use crate::commands::first_request;
+use crate::heard_message::{HeardRef, hear_message, heard_as_good, word_heard};
 use crate::message::read_message;
-use crate::reading::{HeardRef, hear_message, heard_as_good};
+use crate::next_standing::set_standing_after_step;
 use crate::{Actions, Config, Event, Peer, PeerFault};
 use dm_base::is_base_command;
 use dm_machine::laws::each_state_decides;
@@ -85,7 +85,8 @@ fn input_of_event(event: Event<'_>, heard: Option<&HeardRef<'_>>) -> Input
     }
 }
 
-/// One step at the event, after what was heard, by which the event goes.
+/// One step at the event, after what was heard, by which the event goes: the peer becomes the next one, and the actions
+/// are put in. Behind a refusal these are of no use.
 fn step_peer(
     alloc: Global,
     peer: &mut Peer,
@@ -107,7 +108,8 @@ fn step_peer(
     Ok(())
 }
 
-/// A message that came on the connection.
+/// What a message that came on the connection comes to: the peer becomes the next one, and the actions are put in.
+/// Behind a refusal these are of no use.
 fn handle_message(
     alloc: Global,
     peer: &mut Peer,
@@ -133,7 +135,8 @@ fn handle_message(
     step_peer(alloc, peer, event, Some(&heard), actions)
 }
 
-/// Octets that came on the connection.
+/// What octets that came on the connection come to: the peer becomes the next one, and the actions are put in. Behind a
+/// refusal these are of no use.
 fn handle_arrival(
     alloc: Global,
     peer: &mut Peer,
@@ -171,7 +174,8 @@ fn can_submit(octets: &[u8]) -> bool
     }
 }
 
-/// Octets that the user submits.
+/// What octets that the user submits come to: the peer becomes the next one, and the actions are put in. Behind a
+/// refusal these are of no use.
 fn handle_submit(
     alloc: Global,
     peer: &mut Peer,

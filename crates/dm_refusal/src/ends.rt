@@ -19,7 +19,7 @@ pub enum End {
     Fault,
 }
 
-/// The end of a call that answered, as its row or not.
+/// How a call ended that answered, as its row or not, and of which a request was refused or none.
 pub fn answered(refused: bool, right: bool) -> End
     ensures right { result ≡ End.Whole → right ≡ true }
     ensures unrefused { result ≡ End.Whole → refused ≡ false }
@@ -33,7 +33,8 @@ pub fn answered(refused: bool, right: bool) -> End
     }
 }
 
-/// The end of a call that wanted memory, and then answered as its row or not.
+/// How a call ended that wanted memory, as a request was refused or though none was, and then answered as its row or
+/// not.
 pub fn repeated(refused: bool, right: bool) -> End
     ensures right { result ≡ End.Again → right ≡ true }
     ensures refused { result ≡ End.Again → refused ≡ true }

@@ -3,7 +3,7 @@ use crate::subject::MOST;
 use crate::{End, answered, refuse, repeated, was_refused};
 use std::alloc::Global;
 
-/// Such a call, with what it borrows.
+/// A call that makes something, with what it borrows.
 pub trait Making {
     /// What it makes.
     type Made: Drop;
@@ -45,7 +45,8 @@ fn end_of_refused_call<M: Making>(alloc: Global, making: &M, nth: u32) -> End {
     }
 }
 
-/// As [`last`](crate::last), of a call that makes something.
+/// The first request of a call that makes something is refused, then the second, and so on, until it doesn't end
+/// `Again`: the number of the last, and how the call ended then. It is `Whole` where all is well.
 pub fn last_made<M: Making>(alloc: Global, making: &M) -> (u32, End) {
     for nth in 1..MOST {
         let end = end_of_refused_call(alloc, making, nth);

@@ -20,6 +20,7 @@ const ASKED: usize = ORDER | 1 << 59;
 /// Whether a request for more than so many octets was made since the last order.
 const LARGER: usize = ORDER | 1 << 58;
 
+/// Whether a block of so many octets is to be had.
 fn can_allocate(alloc: Global, size: usize) -> bool {
     let block: Result<Vec<u8>, AllocError> = Vec::with_capacity(alloc, size);
     block.is_ok()

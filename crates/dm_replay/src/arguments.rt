@@ -12,7 +12,7 @@ use dm_text::Words;
 use dm_words::{next_long_number, next_number, read_cause, two_numbers, word_alone};
 use dm_world::Side;
 
-/// The side that a word names.
+/// The side that a word names; None where it names none.
 pub fn read_side(word: &[u8]) -> Option<Side>
     ensures told { IfSome result (λ side. word.now ≡ side_name side) }
     ensures none { IfNone result ((side : Side) → word.now ≡ side_name side → ⊥) }
@@ -24,7 +24,7 @@ pub fn read_side(word: &[u8]) -> Option<Side>
     }
 }
 
-/// The side that the next word names.
+/// The side that the next word names; None where it names none.
 pub fn next_side(left: &mut Words<'_>) -> Option<Side>
     ensures told { IfSome result (λ side. words left.old ≡ side_name side ∷ words left.new) }
     ensures none { IfNone result ((side : Side) (more : List (List ℕ)) → words left.old ≡ side_name side ∷ more → ⊥) }
@@ -32,7 +32,7 @@ pub fn next_side(left: &mut Words<'_>) -> Option<Side>
     read_side(left.next()?)
 }
 
-/// The side that the next word names, where no other follows.
+/// The side that the next word names; None where it names none, or another word follows.
 pub fn side_alone(left: &mut Words<'_>) -> Option<Side>
     ensures told { IfSome result (λ side. words left.old ≡ side_name side ∷ []) }
     ensures none { IfNone result ((side : Side) → words left.old ≡ side_name side ∷ [] → ⊥) }
@@ -44,7 +44,7 @@ pub fn side_alone(left: &mut Words<'_>) -> Option<Side>
     Some(side)
 }
 
-/// A side and a cause.
+/// The side and the cause that the two words left tell; None where they are others.
 pub fn side_and_cause(left: &mut Words<'_>) -> Option<(Side, Cause)>
     ensures told { IfSome result (λ r. (number : List ℕ) × (words left.old ≡ side_name r.0 ∷ number ∷ [])
         × TellsNumber (cause_number r.1) number) }
@@ -56,7 +56,7 @@ pub fn side_and_cause(left: &mut Words<'_>) -> Option<(Side, Cause)>
     Some((side, cause))
 }
 
-/// The link that the next word names, where no other follows.
+/// The link that the next word names; None where it names none, or another word follows.
 pub fn link_alone(left: &mut Words<'_>) -> Option<u64>
     ensures told { IfSome result (λ n. (number : List ℕ) × (words left.old ≡ number ∷ []) × TellsLongNumber n number) }
     ensures none { IfNone result ((n : ℕ) (number : List ℕ) → words left.old ≡ number ∷ []
@@ -69,7 +69,7 @@ pub fn link_alone(left: &mut Words<'_>) -> Option<u64>
     Some(link)
 }
 
-/// A link and a side.
+/// The link and the side that the two words left tell; None where they are others.
 pub fn link_and_side(left: &mut Words<'_>) -> Option<(u64, Side)>
     ensures told { IfSome result (λ r. (number : List ℕ) × (words left.old ≡ number ∷ side_name r.1 ∷ [])
         × TellsLongNumber r.0 number) }
@@ -81,7 +81,7 @@ pub fn link_and_side(left: &mut Words<'_>) -> Option<(u64, Side)>
     Some((link, side))
 }
 
-/// A side and a number.
+/// The side and the number that the two words left tell; None where they are others.
 fn side_and_number(left: &mut Words<'_>) -> Option<(Side, u32)>
     ensures told { IfSome result (λ r. (a : List ℕ) × (words left.old ≡ side_name r.0 ∷ a ∷ []) × TellsNumber r.1 a) }
     ensures none { IfNone result ((side : Side) (n : ℕ) (a : List ℕ) → words left.old ≡ side_name side ∷ a ∷ []
@@ -95,7 +95,7 @@ fn side_and_number(left: &mut Words<'_>) -> Option<(Side, u32)>
     Some((side, number))
 }
 
-/// A link, a side and a number.
+/// The link, the side and the number that the three words left tell; None where they are others.
 pub fn link_side_and_number(left: &mut Words<'_>) -> Option<(u64, Side, u32)>
     ensures told { IfSome result (λ r. (number a : List ℕ) × (words left.old ≡ number ∷ side_name r.1 ∷ a ∷ [])
         × TellsLongNumber r.0 number × TellsNumber r.2 a) }
@@ -107,7 +107,7 @@ pub fn link_side_and_number(left: &mut Words<'_>) -> Option<(u64, Side, u32)>
     Some((link, side, number))
 }
 
-/// A link and two numbers.
+/// The link and the two numbers that the three words left tell; None where they are others.
 pub fn link_and_numbers(left: &mut Words<'_>) -> Option<(u64, u32, u32)>
     ensures told { IfSome result (λ r. (number a b : List ℕ) × (words left.old ≡ number ∷ a ∷ b ∷ [])
         × TellsLongNumber r.0 number × TellsNumber r.1 a × TellsNumber r.2 b) }
@@ -119,7 +119,7 @@ pub fn link_and_numbers(left: &mut Words<'_>) -> Option<(u64, u32, u32)>
     Some((link, first, second))
 }
 
-/// A side and one word more.
+/// The side that the first of the two words left names, and the second; None where they are others.
 pub fn side_and_word<'a>(left: &mut Words<'a>) -> Option<(Side, &'a [u8])>
     ensures told { IfSome result (λ r. words left.old ≡ side_name r.0 ∷ r.1.now ∷ []) }
     ensures none { IfNone result ((side : Side) (word : List ℕ) → words left.old ≡ side_name side ∷ word ∷ [] → ⊥) }

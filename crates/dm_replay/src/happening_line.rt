@@ -15,7 +15,7 @@ use dm_wire::Octets;
 use dm_world::Happening;
 use std::alloc::{AllocError, Global};
 
-/// The happening that a line tells.
+/// The happening that a line tells; None where it tells none.
 pub fn read_happening(alloc: Global, line: &[u8]) -> Result<Option<Happening>, AllocError>
     ensures { IfOk result (λ read. MatchOption read ((h : Happening) → TellsHappening h line.now → ⊥)
         (λ h. TellsHappening h line.now)) }
@@ -31,7 +31,7 @@ pub fn read_happening(alloc: Global, line: &[u8]) -> Result<Option<Happening>, A
     }
 }
 
-/// The happening of a verb and its arguments.
+/// The happening of a verb and its arguments; None where these are others.
 fn read_arguments(verb: Verb, left: &mut Words<'_>) -> Option<Happening>
     requires { verb ≢ Verb.Submit }
     ensures verb { IfSome result (λ h. verb_of h ≡ verb) }
@@ -65,7 +65,7 @@ fn read_arguments(verb: Verb, left: &mut Words<'_>) -> Option<Happening>
     }
 }
 
-/// A Submit of a side and octets in hexadecimal.
+/// The Submit of a side and octets in hexadecimal; None where the words tell none.
 fn read_submit(alloc: Global, left: &mut Words<'_>) -> Result<Option<Happening>, AllocError>
     ensures verb { IfOk result (λ read. IfSome read (λ h. verb_of h ≡ Verb.Submit)) }
     ensures told { IfOk result (λ read. IfSome read (λ h. TellsArguments h (words left.old))) }

@@ -20,7 +20,7 @@ pub struct HostLine<'a> {
     pub application: u32,
 }
 
-/// What a line says of the peer of this side.
+/// What a line says of the peer of this side; None where it is no line of that peer.
 pub fn read_host_line(side: Side, line: &[u8]) -> Option<HostLine<'_>>
     ensures told { IfSome result (λ r.
         TellsHost side (record { host = r.host.now; application = r.application }) line.now) }
@@ -35,7 +35,7 @@ pub fn read_host_line(side: Side, line: &[u8]) -> Option<HostLine<'_>>
     Some(HostLine { host, application })
 }
 
-/// The words `peer` and the side's name.
+/// Takes the next two words where they are `peer` and the side's name, else answers None.
 fn take_peer_and_side(left: &mut Words<'_>, side: Side) -> Option<()>
     ensures told { IfSome result (λ _. words left.old ≡ codes "peer" ∷ side_name side ∷ words left.new) }
     ensures none { IfNone result ((more : List (List ℕ)) → words left.old ≡ codes "peer" ∷ side_name side ∷ more → ⊥) }
@@ -50,7 +50,7 @@ fn take_peer_and_side(left: &mut Words<'_>, side: Side) -> Option<()>
     Some(())
 }
 
-/// A host and a number.
+/// The host and the number that the two words left tell; None where they are others.
 fn host_and_number<'a>(left: &mut Words<'a>) -> Option<(&'a [u8], u32)>
     ensures told { IfSome result (λ r. (number : List ℕ) × (words left.old ≡ r.0.now ∷ number ∷ [])
         × TellsNumber r.1 number) }

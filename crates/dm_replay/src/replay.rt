@@ -30,7 +30,7 @@ pub fn replay_text(alloc: Global, text: &[u8]) -> Result<(Vec<u8>, bool), NoMemo
     }
 }
 
-/// The text of a script.
+/// The text of a script's replay, and whether all of it was good.
 fn script_text(alloc: Global, script: Script) -> Result<(Vec<u8>, bool), NoMemory>
     requires left { is_same_host script.left.peer script.right.node.host ≡ true }
     requires right { is_same_host script.right.peer script.left.node.host ≡ true }

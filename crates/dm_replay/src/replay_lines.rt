@@ -52,7 +52,7 @@ pub fn push_nolink_line(text: &mut Vec<u8>, number: usize) -> Result<(), AllocEr
     Ok(())
 }
 
-/// Appends the last line.
+/// Appends the last line: whether the peers agree, whether nothing is under way, and the link that both are open on.
 pub fn push_end_line(text: &mut Vec<u8>, world: &World) -> Result<(), AllocError>
     ensures { OnOk result (text.new.items ≡ text.old.items ++ end_line world.now) }
 {
@@ -66,6 +66,7 @@ pub fn push_end_line(text: &mut Vec<u8>, world: &World) -> Result<(), AllocError
     Ok(())
 }
 
+/// Appends what became of a happening, and the name of side A.
 fn push_effect(text: &mut Vec<u8>, effect: Effect) -> Result<(), AllocError>
     ensures { OnOk result (text.new.items ≡ text.old.items ++ effect_text effect) }
 {
@@ -76,6 +77,7 @@ fn push_effect(text: &mut Vec<u8>, effect: Effect) -> Result<(), AllocError>
     Ok(())
 }
 
+/// Appends the peer's state, and the connections that it holds.
 fn push_peer(text: &mut Vec<u8>, peer: &Peer) -> Result<(), AllocError>
     ensures { OnOk result (text.new.items ≡ text.old.items ++ node_text peer.now.standing.core) }
 {
@@ -85,12 +87,14 @@ fn push_peer(text: &mut Vec<u8>, peer: &Peer) -> Result<(), AllocError>
     Ok(())
 }
 
+/// The name of a state, as octets.
 fn state_name(state: State) -> &'static [u8]
     ensures { result.now ≡ state_text state }
 {
     state.name().as_bytes()
 }
 
+/// Appends the connection behind its letter; nothing where none is held.
 fn push_held(text: &mut Vec<u8>, letter: &[u8], held: Option<Conn>) -> Result<(), AllocError>
     ensures { OnOk result (text.new.items ≡ text.old.items ++ held_text letter.now held) }
 {
@@ -101,6 +105,7 @@ fn push_held(text: &mut Vec<u8>, letter: &[u8], held: Option<Conn>) -> Result<()
     Ok(())
 }
 
+/// Appends `yes` or `no`.
 fn push_yes_or_no(text: &mut Vec<u8>, answer: bool) -> Result<(), AllocError>
     ensures { OnOk result (text.new.items ≡ text.old.items ++ answer_text answer) }
 {
@@ -112,6 +117,7 @@ fn push_yes_or_no(text: &mut Vec<u8>, answer: bool) -> Result<(), AllocError>
     Ok(())
 }
 
+/// Appends the number of the link, or `-` where there is none.
 fn push_link(text: &mut Vec<u8>, link: Option<Conn>) -> Result<(), AllocError>
     ensures { OnOk result (text.new.items ≡ text.old.items ++ link_text link) }
 {

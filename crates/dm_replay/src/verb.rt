@@ -19,7 +19,7 @@ pub enum Verb {
     Submit,
 }
 
-/// What a word asks for.
+/// What a word asks for; None where it is no verb.
 pub fn read_verb(word: &[u8]) -> Option<Verb>
     ensures told { IfSome result (λ verb. word.now ≡ word_of verb) }
     ensures none { IfNone result ((verb : Verb) → word.now ≡ word_of verb → ⊥) }

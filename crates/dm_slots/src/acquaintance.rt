@@ -12,7 +12,8 @@ use dm_wire::Octets;
 use std::alloc::Global;
 use std::marker::Model;
 
-/// The CER or CEA that the octets spell, as what it says of its sender. It never answers want of memory.
+/// The CER or CEA that the octets spell, as what it says of its sender; None where they spell neither. It never answers
+/// want of memory.
 fn exchange_in(octets: &[u8]) -> Option<SenderRef<'_>>
     ensures { MatchOption result (exchange_in octets.now ≡ None)
         (λ r. (m : Message) × (exchange_in octets.now ≡ Some m) × HasAvps r m.avps) }
@@ -100,7 +101,7 @@ impl Acquaintance {
         }
     }
 
-    /// The other side was met by this CER or CEA. It never answers want of memory.
+    /// Notes that the other side was met by this CER or CEA. It never answers want of memory.
     fn meet(&mut self, exchange: Octets)
         ensures { self.new ≡ met_by exchange self.old }
     {
@@ -109,14 +110,14 @@ impl Acquaintance {
         self.waiting = None;
     }
 
-    /// This CER waits for its CEA. It never answers want of memory.
+    /// Notes that this CER waits for its CEA. It never answers want of memory.
     fn set_waiting(&mut self, exchange: Octets)
         ensures { self.new ≡ with_waiting exchange self.old }
     {
         self.waiting = Some(exchange);
     }
 
-    /// The other side was met by the CER that waited, if one did. It never answers want of memory.
+    /// Notes that the other side was met by the CER that waited, if one did. It never answers want of memory.
     fn meet_waiting(&mut self)
         ensures { self.new ≡ met_waiting self.old.waiting self.old }
     {
@@ -125,8 +126,8 @@ impl Acquaintance {
         }
     }
 
-    /// The peer is open, and wasn't before this CER or CEA of the connection: it was opened by that where it holds the
-    /// connection, and else by the CER that waited.
+    /// Notes by what a peer was opened that is open now, and wasn't before this CER or CEA of the connection: by that
+    /// where it holds the connection, and else by the CER that waited.
     fn meet_opening(&mut self, exchange: Octets, conn: Conn, peer: &Peer)
         ensures { self.new ≡ known_opened conn peer.now exchange self.old }
     {

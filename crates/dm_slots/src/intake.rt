@@ -102,8 +102,8 @@ impl Intake {
         }
     }
 
-    /// How many octets of the piece the whole message takes with which it begins, where nothing is kept before it. It
-    /// never answers want of memory.
+    /// How many octets the whole message has with which the piece begins, where nothing is kept before it; None where
+    /// something is, behind a fault, or where it begins with none. It never answers want of memory.
     pub(crate) fn whole_in(&self, piece: &[u8]) -> Option<usize>
         ensures within { IfSome result (λ size. size ≤ length piece.now) }
         ensures whole { IfSome result (λ size.

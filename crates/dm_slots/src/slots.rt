@@ -121,8 +121,9 @@ impl Slots {
     }
 
     #[tactic(auto, using(crate::proofs::Steps::whole, crate::proofs::Steps::not_whole, crate::proofs::Steps::nowhere))]
-    /// How many octets of the piece the whole message takes with which it begins, where the connection is there and
-    /// nothing is kept of it. It never answers want of memory.
+    /// How many octets the whole message has with which the piece begins, where the connection is there and nothing is
+    /// kept of it; None where the connection isn't there or something is kept, behind a fault, or where the piece
+    /// begins with none. It never answers want of memory.
     pub fn whole_in(&self, conn: Conn, piece: &[u8]) -> Option<usize>
         ensures whole { IfSome result (λ size. IsWholeAt (intakes_of self.now conn.0) piece.now size) }
         ensures none { IfNone result (IfSome (intakes_of self.now conn.0) (λ i. IsNotWhole i piece.now)) }
@@ -236,7 +237,8 @@ impl Slots {
         }
     }
 
-    /// Whether the connection is there and takes messages of at most `max` octets already. Where it stands is noted.
+    /// True only where the connection is there and takes messages of at most `max` octets already. Where it stands is
+    /// noted, so as to be looked at first.
     fn is_raised(&mut self, conn: Conn, max: u32) -> bool
         ensures raised { result ≡ true → (i : OneIntake) × (intakes_of self.old conn.0 ≡ Some i) × (i.max ≡ max) }
         ensures same { intakes_of self.new ≡ intakes_of self.old }

@@ -12,7 +12,7 @@ use crate::{AvpDef, CommandDef, Entry, NoMemory, Rule, Values};
 use dm_wire::Octets;
 use std::alloc::Global;
 
-/// The entry of a row.
+/// The entry that a row tells; or want of memory.
 fn entry_of_row(alloc: Global, row: &EntryRow) -> Result<Entry, NoMemory>
     ensures { IfOk result (λ entry. entry ≡ row_entry row.now) }
 {
@@ -24,7 +24,7 @@ fn entry_of_row(alloc: Global, row: &EntryRow) -> Result<Entry, NoMemory>
     })
 }
 
-/// The rule of rows.
+/// The rule whose entries the rows tell, in order; or want of memory.
 fn rule_of_rows(alloc: Global, rows: &[EntryRow]) -> Result<Rule, NoMemory>
     ensures { IfOk result (λ rule. rule ≡ map row_entry rows.now) }
 {
@@ -35,7 +35,7 @@ fn rule_of_rows(alloc: Global, rows: &[EntryRow]) -> Result<Rule, NoMemory>
     Ok(Rule::from_vec(entries))
 }
 
-/// The AVP's definition that a row tells.
+/// The definition of an AVP that a row tells; or want of memory.
 fn avp_of_row(alloc: Global, row: &AvpRow) -> Result<AvpDef, NoMemory>
     ensures { IfOk result (λ avp. avp ≡ row_avp row.now) }
 {
@@ -49,7 +49,7 @@ fn avp_of_row(alloc: Global, row: &AvpRow) -> Result<AvpDef, NoMemory>
     })
 }
 
-/// The command's definition that a row tells.
+/// The definition of a command that a row tells; or want of memory.
 fn command_of_row(alloc: Global, row: &CommandRow) -> Result<CommandDef, NoMemory>
     ensures { IfOk result (λ command. command ≡ row_command row.now) }
 {
@@ -94,14 +94,14 @@ fn add_command_rows(alloc: Global, tables: &mut Tables, rows: &[CommandRow]) -> 
     Ok(())
 }
 
-/// The AVPs.
+/// The rows of the AVPs of the base dictionary.
 fn avp_rows() -> &'static [AvpRow]
     ensures { map row_avp result.now ≡ base_definitions.avps }
 {
     &AVPS
 }
 
-/// The commands.
+/// The rows of the commands of the base dictionary.
 fn command_rows() -> &'static [CommandRow]
     ensures { map row_command result.now ≡ base_definitions.commands }
 {
@@ -131,7 +131,7 @@ fn reserve_and_add_base(alloc: Global, tables: &mut Tables) -> Result<(), NoMemo
     add_base_definitions(alloc, tables)
 }
 
-/// The tables of the base dictionary.
+/// The tables of the base dictionary; or want of memory.
 pub fn base_tables(alloc: Global) -> Result<Tables, NoMemory>
     ensures base { IfOk result (λ tables. defined tables ≡ base_definitions) }
     ensures dictionary { IfOk result IsDictionary }

@@ -74,7 +74,7 @@ impl NameGuesses {
         Ok(guesses)
     }
 
-    /// The names of the AVPs, where there are none.
+    /// Notes the names of the AVPs, where none is noted.
     pub fn note_all(&mut self, avps: &[AvpDef])
         requires { AreGuessed [] self.old.places.items }
         ensures { AreGuessed avps.now self.new.places.items }
@@ -91,7 +91,7 @@ impl NameGuesses {
         hash_of_name(name) as usize & self.places.len().saturating_sub(1)
     }
 
-    /// The name of the AVP at the place, behind the others.
+    /// Notes the name of the AVP at the place, behind the others.
     pub fn note(&mut self, name: &[u8], place: usize)
         ensures noted { self.new.places.items ≡ with_guess self.old.places.items name.now place }
         // The guesses of some AVPs become those of one more.
@@ -104,7 +104,8 @@ impl NameGuesses {
         }
     }
 
-    /// What is guessed for a name.
+    /// The place that is guessed for a name, to be looked at before it is taken; `NO_GUESS` where no AVP has a name of
+    /// its slot.
     pub(crate) fn guess(&self, name: &[u8]) -> u16
         ensures { result ≡ slice_index self.now.places.items (slot_of (length self.now.places.items) name.now) }
     {

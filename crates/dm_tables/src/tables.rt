@@ -76,7 +76,7 @@ impl Tables {
         }
     }
 
-    /// Room for so many AVPs and commands more, so that none is moved while they are added.
+    /// Makes room for so many AVPs and commands more, so that none is moved while they are added.
     pub fn reserve(&mut self, avps: usize, commands: usize) -> Result<(), NoMemory>
         ensures same { defined self.new ≡ defined self.old }
         ensures tables { IsTables self.old → IsTables self.new }
@@ -90,7 +90,7 @@ impl Tables {
         Ok(())
     }
 
-    /// One vendor more, behind the others. After want of memory the tables are of no use.
+    /// Adds a vendor behind the others. After want of memory the tables are of no use.
     pub fn add_vendor(&mut self, alloc: Global, vendor: VendorDef) -> Result<(), NoMemory>
         requires tables { IsTables self.old }
         requires sound { is_sound_vendor self.old.vendors.items.items vendor ≡ true }
@@ -100,7 +100,7 @@ impl Tables {
         self.vendors.add(alloc, vendor)
     }
 
-    /// One AVP more, behind the others. After want of memory the tables are of no use.
+    /// Adds an AVP behind the others. After want of memory the tables are of no use.
     pub fn add_avp(&mut self, alloc: Global, avp: AvpDef) -> Result<(), NoMemory>
         requires tables { IsTables self.old }
         requires sound { is_sound_avp self.old.avps.items avp ≡ true }
@@ -116,7 +116,7 @@ impl Tables {
         noted
     }
 
-    /// One command more, behind the others. After want of memory the tables are of no use.
+    /// Adds a command behind the others. After want of memory the tables are of no use.
     pub fn add_command(&mut self, alloc: Global, command: CommandDef) -> Result<(), NoMemory>
         requires tables { IsTables self.old }
         requires sound { is_sound_command self.old.commands.items command ≡ true }
@@ -131,7 +131,7 @@ impl Tables {
         noted
     }
 
-    /// Copies of the vendors, behind the others.
+    /// Adds copies of the vendors behind the others.
     fn add_vendors(&mut self, alloc: Global, vendors: &[VendorDef]) -> Result<(), NoMemory>
         requires tables { IsTables self.old }
         requires sound { each_after is_sound_vendor self.old.vendors.items.items vendors.now ≡ true }
@@ -146,7 +146,7 @@ impl Tables {
         Ok(())
     }
 
-    /// Copies of the AVPs, behind the others.
+    /// Adds copies of the AVPs behind the others.
     fn add_avps(&mut self, alloc: Global, avps: &[AvpDef]) -> Result<(), NoMemory>
         requires tables { IsTables self.old }
         requires sound { each_after is_sound_avp self.old.avps.items avps.now ≡ true }
@@ -161,7 +161,7 @@ impl Tables {
         Ok(())
     }
 
-    /// Copies of the commands, behind the others.
+    /// Adds copies of the commands behind the others.
     fn add_commands(&mut self, alloc: Global, commands: &[CommandDef]) -> Result<(), NoMemory>
         requires tables { IsTables self.old }
         requires sound { each_after is_sound_command self.old.commands.items commands.now ≡ true }
@@ -176,8 +176,8 @@ impl Tables {
         Ok(())
     }
 
-    /// Copies of all definitions of the other tables, where these have none. After want of memory the
-    /// tables are of no use.
+    /// Adds copies of all definitions of the other tables, where these have none. After want of memory the tables are
+    /// of no use.
     pub fn add_all(&mut self, alloc: Global, other: &Tables) -> Result<(), NoMemory>
         requires tables { IsTables self.old }
         requires empty { defined self.old ≡ nothing_defined }
@@ -198,7 +198,7 @@ impl Tables {
         self.names.get(name).copied()
     }
 
-    /// The same as `place_by_name`.
+    /// The place of the AVP of a name, as `place_by_name` tells it.
     // (A function of its own in the machine's code too: it is seldom called.)
     #[inline(never)]
     fn place_by_name_outlined(&self, name: &[u8]) -> Option<usize>
@@ -208,7 +208,7 @@ impl Tables {
         self.place_by_name(name)
     }
 
-    /// The place of the AVP of a name, where it stands as guessed.
+    /// The place of the AVP of a name, where it stands as guessed. None doesn't tell that there is no such AVP.
     fn guessed_place_by_name(&self, guess: u16, name: &[u8]) -> Option<usize>
         requires { IsTables self.now }
         ensures { IfSome result (λ place.
@@ -248,7 +248,8 @@ impl Tables {
         self.codes.get(&(code, vendor)).copied()
     }
 
-    /// The place of the AVP of a code and vendor, where it stands as guessed.
+    /// The place of the AVP of a code and vendor, where it stands as guessed. None doesn't tell that there is no such
+    /// AVP.
     fn guessed_place_by_code(&self, code: u32, vendor: Option<u32>) -> Option<usize>
         requires { IsTables self.now }
         ensures value { result ≡ guessed self.now code vendor }
@@ -259,7 +260,7 @@ impl Tables {
         self.place_if_coded(place, code, vendor)
     }
 
-    /// The place, where the AVP that stands there has the code and vendor.
+    /// The place, where the AVP that stands there has the code and vendor; else None.
     #[inline(always)]
     pub fn place_if_coded(&self, place: usize, code: u32, vendor: Option<u32>) -> Option<usize>
         requires { IsTables self.now }

@@ -153,14 +153,14 @@ fn index_if_long(alloc: Global, values: &[EnumValue]) -> Result<IndexMap<i32, us
     }
 }
 
-/// The first of the values that has the number, one after the other.
+/// The first of the values that has the number, found by looking at one after the other.
 fn value_among<'a>(values: &'a [EnumValue], number: &i32) -> Option<&'a EnumValue>
     ensures { option_copied result ≡ find (has_number number.now) values.now }
 {
     values.iter().find(|value| *number == value.number)
 }
 
-/// Whether one of the values has the number, one after the other.
+/// Whether one of the values has the number, found by looking at one after the other.
 fn is_listed_among(values: &[EnumValue], number: &i32) -> bool
     ensures { result ≡ list_any (has_number number.now) values.now }
 {

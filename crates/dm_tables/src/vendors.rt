@@ -21,14 +21,14 @@ pub struct Vendors {
     pub numbers: IndexSet<u32>,
 }
 
-/// The first of the vendors that has the name, one after the other.
+/// The first of the vendors that has the name, found by looking at one after the other.
 fn vendor_among<'a>(vendors: &'a [VendorDef], name: &[u8]) -> Option<&'a VendorDef>
     ensures { option_copied result ≡ find (is_vendor name.now) vendors.now }
 {
     vendors.iter().find(|vendor| vendor.name.as_slice() == name)
 }
 
-/// Whether one of the first of the vendors, so many, has the name, one after the other.
+/// Whether one of the first of the vendors, so many, has the name, found by looking at one after the other.
 fn is_vendor_among(vendors: &[VendorDef], first: usize, name: &[u8]) -> bool
     ensures { result ≡ list_any (is_vendor name.now) (take first vendors.now) }
 {
@@ -51,7 +51,7 @@ impl Vendors {
         }
     }
 
-    /// One vendor more, behind the others. After want of memory the vendors are of no use.
+    /// Adds a vendor behind the others. After want of memory the vendors are of no use.
     pub fn add(&mut self, alloc: Global, vendor: VendorDef) -> Result<(), NoMemory>
         requires indexed { IsVendored self.old }
         requires name { list_any (is_vendor vendor.name) self.old.items.items ≡ false }

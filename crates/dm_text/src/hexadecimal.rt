@@ -5,7 +5,7 @@ ghost use Rattle.std.specs.Fmt.{WritesOnOk};
 ghost use Rattle.std.specs.Option.{option_map};
 ghost use Rattle.std.specs.String.{string_bytes};
 ghost use Rattle.hex.specs.Hex.{encode_lower};
-ghost use Rattle.dm_text.specs.Hexadecimal.{without_spaces, word_octets};
+ghost use Rattle.dm_text.specs.Hexadecimal.{word_octets};
 ghost use Rattle.dm_text.specs.SideBySide.{bad_marks, AreRead, HasBadDigit, PutUpTo};
 ghost use Rattle.dm_text.specs.declared.hexadecimal.TheConstants.{OCTETS_AT_ONCE as octets_at_once};
 
@@ -13,7 +13,6 @@ use crate::digit::{digit_worth, digits_of};
 use crate::lanes::{
     are_all_digits, digit_marks, high_digits, interleaved, low_digits, lower_marks, octets_of_marks,
 };
-use memchr::memchr;
 use std::alloc::{AllocError, Global};
 use std::simd::prelude::*;
 use std::{fmt, str};
@@ -138,34 +137,12 @@ fn read_one_by_one(word: &[u8], octets: &mut [u8]) -> bool
     worst < 16
 }
 
+/// The larger of two octets.
 #[inline(always)]
 fn larger(one: u8, other: u8) -> u8
     ensures { result ≡ max one other }
 {
     if one < other { other } else { one }
-}
-
-/// Whether no octet of the line is a space.
-pub(crate) fn has_no_space(line: &[u8]) -> bool
-    ensures { result ≡ true → without_spaces line.now ≡ line.now }
-{
-    match memchr(b' ', line) {
-        None => true,
-        Some(_) => false,
-    }
-}
-
-/// Puts the line into `digits` with its spaces taken out.
-pub(crate) fn take_out_spaces(line: &[u8], digits: &mut Vec<u8>) -> Result<(), AllocError>
-    ensures { OnOk result (digits.new.items ≡ without_spaces line.now) }
-{
-    digits.clear();
-    for octet in line {
-        if *octet != b' ' {
-            digits.push(*octet)?;
-        }
-    }
-    Ok(())
 }
 
 /// Octets as text: lower case hexadecimal.

@@ -60,7 +60,7 @@ impl<'a> Iterator for Lines<'a> {
     }
 }
 
-/// Where the first LF stands.
+/// Where the first LF stands; None where there is none.
 pub fn line_feed(input: &[u8]) -> Option<usize>
     ensures { result ≡ position (λ b. b == 10) input.now }
 {

@@ -1,9 +1,10 @@
 //! Room for lines of hexadecimal, which is used again from line to line.
-ghost use Rattle.std.specs.Prelude.{◌≡◌, IfOk};
+ghost use Rattle.std.specs.Prelude.{◌≡◌, IfOk, OnOk, true};
 ghost use Rattle.std.specs.Option.{option_map};
-ghost use Rattle.dm_text.specs.Hexadecimal.{line_octets};
+ghost use Rattle.dm_text.specs.Hexadecimal.{line_octets, without_spaces};
 
-use crate::hexadecimal::{has_no_space, read_hex_into, take_out_spaces};
+use crate::hexadecimal::read_hex_into;
+use memchr::memchr;
 use std::alloc::{AllocError, Global};
 
 /// Room for one line of hexadecimal at a time. What it holds doesn't matter to the next line.
@@ -13,6 +14,29 @@ pub struct LineRoom {
     digits: Vec<u8>,
     /// The octets of the line.
     octets: Vec<u8>,
+}
+
+/// True only where no octet of the line is a space.
+fn has_no_space(line: &[u8]) -> bool
+    ensures { result ≡ true → without_spaces line.now ≡ line.now }
+{
+    match memchr(b' ', line) {
+        None => true,
+        Some(_) => false,
+    }
+}
+
+/// Puts the line into `digits` with its spaces taken out.
+fn take_out_spaces(line: &[u8], digits: &mut Vec<u8>) -> Result<(), AllocError>
+    ensures { OnOk result (digits.new.items ≡ without_spaces line.now) }
+{
+    digits.clear();
+    for octet in line {
+        if *octet != b' ' {
+            digits.push(*octet)?;
+        }
+    }
+    Ok(())
 }
 
 impl LineRoom {

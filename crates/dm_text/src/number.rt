@@ -2,7 +2,7 @@
 ghost use Rattle.std.specs.Prelude.{◌≤◌, ℕ, IfSome, IfNone};
 ghost use Rattle.dm_text.specs.Numbers.{TellsUpTo, TellsNumber, TellsLongNumber};
 
-/// The number that a word tells: decimal digits alone, at most 4294967295.
+/// The number that a word tells: decimal digits alone, at most 4294967295. None for any other word.
 pub fn read_number(word: &[u8]) -> Option<u32>
     ensures told { IfSome result (λ n. TellsNumber n word.now) }
     ensures none { IfNone result ((n : ℕ) → TellsNumber n word.now → ⊥) }
@@ -13,7 +13,7 @@ pub fn read_number(word: &[u8]) -> Option<u32>
     }
 }
 
-/// The number that a word tells: decimal digits alone, at most 18446744073709551615.
+/// The number that a word tells: decimal digits alone, at most 18446744073709551615. None for any other word.
 pub fn read_long_number(word: &[u8]) -> Option<u64>
     ensures told { IfSome result (λ n. TellsLongNumber n word.now) }
     ensures none { IfNone result ((n : ℕ) → TellsLongNumber n word.now → ⊥) }
@@ -21,7 +21,7 @@ pub fn read_long_number(word: &[u8]) -> Option<u64>
     read_number_up_to(word, u64::MAX)
 }
 
-/// The number that a word tells, at most this one.
+/// The number that a word tells, decimal digits alone, where it is at most this one; else None.
 fn read_number_up_to(word: &[u8], most: u64) -> Option<u64>
     requires { 9 ≤ most }
     ensures told { IfSome result (λ n. TellsUpTo most n word.now) }

@@ -3,7 +3,7 @@ use Rattle.std.specs.Prelude.{◌≡◌, ◌≢◌, ℕ, Bool, Option, Some, Non
 use Rattle.dm_wire.specs.declared.avp.Avp.{Avp}
 use Rattle.dm_wire.specs.declared.message.Header.{Header}
 use Rattle.dm_wire.specs.declared.message.Message.{Message}
-use Rattle.dm_tool.specs.declared.building.Building.{Building}
+use Rattle.dm_tool.specs.declared.built_messages.Building.{Building}
 use Rattle.dm_tool.specs.Messages.{TellsHeader, TellsAvp, TellsAll}
 use Rattle.dm_tool.specs.Build.{BuildsMessages}
 

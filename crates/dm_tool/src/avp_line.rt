@@ -12,7 +12,7 @@ use dm_text::{Words, read_hex_word, read_number};
 use dm_wire::{Avp, Octets};
 use std::alloc::{AllocError, Global};
 
-/// The AVP that a line tells, as show prints it, with any number of spaces before it.
+/// The AVP that a line tells, as show prints it, with any number of spaces before it; None where it tells none.
 pub fn read_avp(alloc: Global, line: &[u8]) -> Result<Option<Avp>, AllocError>
     ensures { IfOk result (λ read. MatchOption read ((a : Avp) → TellsAvp a line.now → ⊥) (λ a. TellsAvp a line.now)) }
 {
@@ -41,6 +41,7 @@ struct AvpWords<'a> {
     word: &'a [u8],
 }
 
+/// The code, vendor, flags and data word of an AVP that a line tells; None where it tells no such words.
 fn read_avp_words(line: &[u8]) -> Option<AvpWords<'_>>
     ensures told { IfSome result (λ p. (code : List ℕ) × TellsCode p.code p.vendor code
         × (words line.now ≡ code ∷ avp_marks (is_some p.vendor) p.mandatory p.protected ∷ p.word.now ∷ [])) }
@@ -58,7 +59,7 @@ fn read_avp_words(line: &[u8]) -> Option<AvpWords<'_>>
     })
 }
 
-/// The words of a line that has three.
+/// The words of a line that has just three; None for any other line.
 fn three_words(line: &[u8]) -> Option<(&[u8], &[u8], &[u8])>
     ensures told { IfSome result (λ w. words line.now ≡ w.0.now ∷ w.1.now ∷ w.2.now ∷ []) }
     ensures none { IfNone result ((a b c : List ℕ) → words line.now ≡ a ∷ b ∷ c ∷ [] → ⊥) }
@@ -73,7 +74,7 @@ fn three_words(line: &[u8]) -> Option<(&[u8], &[u8], &[u8])>
     Some((first, second, third))
 }
 
-/// The AVP Code that a word tells, and the vendor behind a `/`.
+/// The AVP Code that a word tells, and the vendor behind a `/`; None where it tells none.
 fn read_code(word: &[u8]) -> Option<(u32, Option<u32>)>
     ensures told { IfSome result (λ read. TellsCode read.0 read.1 word.now) }
     ensures none { IfNone result ((code : ℕ) (vendor : Option ℕ) → TellsCode code vendor word.now → ⊥) }
@@ -91,13 +92,15 @@ fn read_code(word: &[u8]) -> Option<(u32, Option<u32>)>
     }
 }
 
+/// Where the first `/` stands in the word; None where there is none.
 fn slash_position(word: &[u8]) -> Option<usize>
     ensures { result ≡ position (λ b. b == 47) word.now }
 {
     word.iter().position(|b| *b == b'/')
 }
 
-/// Whether M and P are set. V stands just where there is a vendor.
+/// Whether M and P are set in the word of flags; None where it isn't one, or V doesn't stand just where there is a
+/// vendor.
 fn read_avp_flags(word: &[u8], has_vendor: bool) -> Option<(bool, bool)>
     ensures told { IfSome result (λ f. word.now ≡ avp_marks has_vendor f.0 f.1) }
     ensures none { IfNone result ((m p : Bool) → word.now ≡ avp_marks has_vendor m p → ⊥) }
@@ -111,7 +114,7 @@ fn read_avp_flags(word: &[u8], has_vendor: bool) -> Option<(bool, bool)>
     read_two_flags(*mandatory, b'M', *protected, b'P')
 }
 
-/// The octets that a word tells: hexadecimal digits in either case, or `-` for none.
+/// The octets that a word tells: hexadecimal digits in either case, or `-` for none; None where it tells none.
 fn read_data(alloc: Global, word: &[u8]) -> Result<Option<Vec<u8>>, AllocError>
     ensures { IfOk result (λ read. MatchOption read ((bytes : List ℕ) → TellsData bytes word.now → ⊥)
         (λ bytes. TellsData bytes.items word.now)) }

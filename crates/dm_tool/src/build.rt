@@ -2,7 +2,7 @@
 ghost use Rattle.std.specs.Prelude.{◌≡◌, IfOk, IfErr};
 ghost use Rattle.dm_tool.specs.Build.{BuildsText};
 
-use crate::building::Building;
+use crate::built_messages::Building;
 use crate::fault::ToolFault;
 use dm_text::laws::lines_are_joined;
 use dm_text::{Lines, push_syntax_fault};

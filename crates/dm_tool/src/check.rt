@@ -33,7 +33,7 @@ pub fn check_with_dictionary(alloc: Global, input: &[u8]) -> Result<(Vec<u8>, bo
     checked
 }
 
-/// The text for an input that begins with a dictionary over the base one.
+/// The text for an input that begins with a dictionary over the base one, and whether all of it is good.
 fn check_text_over(
     alloc: Global,
     base: &Dictionary,
@@ -54,7 +54,7 @@ fn check_text_over(
     }
 }
 
-/// The text for a dictionary's fault.
+/// The text for a dictionary's fault, and false, for the input isn't good. Want of memory has no text.
 fn refusal_text(alloc: Global, fault: DictFault) -> Result<(Vec<u8>, bool), ToolFault>
     ensures words { IfOk result (λ printed. printed.0.items ≡ dictionary_fault_text fault ++ 10 ∷ []) }
     ensures known { IfOk result (λ printed. fault ≢ dict.NoMemory) }

@@ -20,7 +20,7 @@ pub enum Choice {
     Replay,
 }
 
-/// The command that these words choose, the program's name left out.
+/// The command that these words choose, the program's name left out; None where they choose none.
 pub fn choose(words: &[String]) -> Option<Choice>
     ensures chosen { IfSome result (λ choice. map string_bytes words.now ≡ words_of choice) }
     ensures refused { IfNone result ((choice : Choice) → map string_bytes words.now ≡ words_of choice → ⊥) }
@@ -32,7 +32,7 @@ pub fn choose(words: &[String]) -> Option<Choice>
     }
 }
 
-/// The command that one word chooses.
+/// The command that one word chooses; None where it chooses none.
 fn choice_of_word(word: &str) -> Option<Choice>
     ensures chosen { IfSome result (λ choice. word.now ∷ [] ≡ words_of choice) }
     ensures refused { IfNone result ((choice : Choice) → word.now ∷ [] ≡ words_of choice → ⊥) }

@@ -9,7 +9,7 @@ ghost use Rattle.dm_tool.specs.Messages.{TellsHeader, TellsNames};
 use dm_text::{Words, read_number};
 use dm_wire::Header;
 
-/// The header that a line tells, as show prints it.
+/// The header that a line tells, as show prints it; None where it tells none.
 pub fn read_header(line: &[u8]) -> Option<Header>
     ensures told { IfSome result (λ h. TellsHeader h line.now) }
     ensures none { IfNone result ((h : Header) → TellsHeader h line.now → ⊥) }
@@ -38,7 +38,7 @@ struct Names {
     end_id: u32,
 }
 
-/// The numbers that the words left tell, each behind its name, where no more words are left.
+/// The numbers that the words left tell, each behind its name; None where they tell others, or more words follow.
 fn read_header_numbers(left: &mut Words<'_>) -> Option<Names>
     ensures told { IfSome result (λ n. TellsNames n.application n.hop_id n.end_id (words left.old)) }
     ensures none { IfNone result ((a h e : ℕ) → TellsNames a h e (words left.old) → ⊥) }
@@ -56,7 +56,7 @@ fn read_header_numbers(left: &mut Words<'_>) -> Option<Names>
     })
 }
 
-/// The number behind this name, where these are the next two words.
+/// The number behind this name, where these are the next two words, else None.
 fn read_named_number(left: &mut Words<'_>, name: &[u8]) -> Option<u32>
     ensures told { IfSome result (λ n. (digits : List ℕ)
         × (words left.old ≡ name.now ∷ digits ∷ words left.new) × TellsNumber n digits) }
@@ -79,7 +79,7 @@ struct Flags {
     retransmit: bool,
 }
 
-/// The flags that a word tells, each by its letter or `-` in its place.
+/// The flags that a word tells, each by its letter or `-` in its place; None where it tells none.
 fn read_header_flags(word: &[u8]) -> Option<Flags>
     ensures told { IfSome result (λ f. word.now ≡ header_marks f.request f.proxiable f.error f.retransmit) }
     ensures none { IfNone result ((r p e t : Bool) → word.now ≡ header_marks r p e t → ⊥) }
@@ -97,7 +97,7 @@ fn read_header_flags(word: &[u8]) -> Option<Flags>
     })
 }
 
-/// Whether two flags are set: of each its letter stands there, or `-`.
+/// Whether two flags are set: of each its letter stands there, or `-`; None where another octet does.
 pub fn read_two_flags(first: u8, letter: u8, second: u8, other: u8) -> Option<(bool, bool)>
     ensures first { IfSome result (λ set. first ≡ flag_mark set.0 letter) }
     ensures second { IfSome result (λ set. second ≡ flag_mark set.1 other) }
@@ -108,7 +108,7 @@ pub fn read_two_flags(first: u8, letter: u8, second: u8, other: u8) -> Option<(b
     Some((first, second))
 }
 
-/// Whether a flag is set: its letter stands there, or `-`.
+/// Whether a flag is set: its letter stands there, or `-`; None where another octet does.
 pub fn read_flag(octet: u8, letter: u8) -> Option<bool>
     ensures told { IfSome result (λ set. octet ≡ flag_mark set letter) }
     ensures none { IfNone result ((set : Bool) → octet ≡ flag_mark set letter → ⊥) }

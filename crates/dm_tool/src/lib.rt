@@ -3,22 +3,22 @@
 
 mod avp_line;
 mod build;
-mod building;
+mod built_messages;
 mod check;
 mod choice;
 mod commands;
 mod divide;
 mod fault;
+mod header_and_avp_text;
 mod header_line;
 mod input;
 pub mod laws;
+mod message_text;
 mod messages;
-mod printed;
 mod program;
 mod run;
 mod source;
 mod status;
-mod text;
 mod verdict;
 
 pub use crate::choice::{Choice, choose};

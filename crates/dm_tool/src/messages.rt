@@ -8,7 +8,7 @@ ghost use Rattle.dm_tool.specs.Text.{fault_text};
 ghost use Rattle.dm_tool.specs.Tasks.{answer_of};
 
 use crate::fault::ToolFault;
-use crate::text::{push_fault, push_message_text};
+use crate::message_text::{push_fault, push_message_text};
 use crate::verdict::push_judged;
 use dm_dict::Dictionary;
 use dm_text::{LineRoom, Lines, is_skipped, trim};
@@ -46,7 +46,7 @@ pub fn messages_text(
     Ok((text, good))
 }
 
-/// Appends the text for a line. The room is used again from line to line.
+/// Appends the text for a line. True where it is good. The room is used again from line to line.
 fn print_line(
     alloc: Global,
     task: Task<'_>,
@@ -67,7 +67,7 @@ fn print_line(
     }
 }
 
-/// Appends the text for the octets of a line.
+/// Appends the text for the octets of a line. True where they are good.
 fn print_octets(
     alloc: Global,
     task: Task<'_>,

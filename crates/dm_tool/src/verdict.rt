@@ -7,7 +7,7 @@ ghost use Rattle.dm_wire.specs.Borrowed.{avp_of};
 ghost use Rattle.dm_tool.specs.Check.{is_good_verdict, verdict_text, verdict_line, dictionary_fault_text};
 
 use crate::fault::ToolFault;
-use crate::printed::push_avp;
+use crate::header_and_avp_text::push_avp;
 use dm_dict::{DictFault, Failed, Judged, Verdict};
 use dm_text::push_decimal;
 use dm_wire::{Avp, AvpRef};

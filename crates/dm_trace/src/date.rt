@@ -11,7 +11,7 @@ use std::alloc::AllocError;
 /// The seconds from 1900-01-01 to 1970-01-01, 00:00 UTC.
 const TO_1970: u64 = 2_208_988_800;
 
-/// The seconds since 1900 of an instant, 0 where it was before.
+/// The seconds since 1900 of an instant that is told in seconds since 1970; 0 where it was before 1900.
 pub(crate) fn seconds_since_1900(seconds: i64) -> u64
     ensures { result ≡ since_1900 seconds }
 {
@@ -30,7 +30,7 @@ pub(crate) fn is_time_value(seconds: u64) -> bool
     seconds >= 0x8000_0000 && seconds < 0x1_8000_0000
 }
 
-/// The date and the time of day of an instant.
+/// The date and the time of day of an instant that is told in seconds since 1900, where a value of type Time has these.
 pub(crate) fn date_of(seconds: u64) -> Utc
     requires { IsTrue (is_dated seconds) }
     ensures { result ≡ utc_at seconds }

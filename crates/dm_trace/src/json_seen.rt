@@ -15,7 +15,7 @@ use dm_flows::Endpoint;
 use dm_view::JsonText;
 use std::alloc::AllocError;
 
-/// Appends when a message was seen, where that is known.
+/// Appends when a message was seen, as a member `time`; nothing where that isn't known.
 fn put_time_member(
     json: &mut JsonText,
     room: &mut String,
@@ -35,7 +35,7 @@ fn put_time_member(
     }
 }
 
-/// Appends an end under this key.
+/// Appends an end of a connection as a member under this key.
 fn put_end_member(
     json: &mut JsonText,
     room: &mut String,
@@ -49,7 +49,7 @@ fn put_end_member(
     json.text_member(name, room.as_str())
 }
 
-/// Appends what carried a message.
+/// Appends what carried a message, as a member `transport`.
 fn put_transport_member(json: &mut JsonText, transport: Transport) -> Result<(), AllocError>
     ensures { OnOk result (json.new
         ≡ json.old ++ key (codes "transport") ∷ string (transport_word transport) ∷ []) }
@@ -57,7 +57,7 @@ fn put_transport_member(json: &mut JsonText, transport: Transport) -> Result<(),
     json.text_member("transport", transport.word())
 }
 
-/// Appends what carried a message, and in which packet.
+/// Appends what carried a message, and in which packet, as members `transport` and `packet`.
 fn put_place_members(
     json: &mut JsonText,
     transport: Transport,

@@ -12,7 +12,7 @@ use std::alloc::AllocError;
 /// Nanoseconds in a second.
 const SECOND: u64 = 1_000_000_000;
 
-/// How many units a second has, where they are below 2^128.
+/// How many units a second has; None where they are 2^128 or more.
 fn units_in_second(resolution: Resolution) -> Option<u128>
     ensures { SomeIff result (units_per_second resolution < 2 ^ 128) (units_per_second resolution) }
 {
@@ -42,7 +42,7 @@ fn nanoseconds_since_1970(time: Time) -> i128
     i128::from(time.seconds) * i128::from(SECOND) + fraction_nanoseconds(time).cast_signed()
 }
 
-/// Appends nanoseconds as seconds.
+/// Appends nanoseconds as seconds, with nine digits of a fraction.
 fn put_as_seconds(text: &mut String, nanoseconds: u128) -> Result<(), AllocError>
     ensures { OnOk result (string_bytes text.new ≡ string_bytes text.old ++ seconds_text nanoseconds) }
 {
@@ -51,7 +51,7 @@ fn put_as_seconds(text: &mut String, nanoseconds: u128) -> Result<(), AllocError
     put_last_digits(text, 9, (nanoseconds % second) as u64)
 }
 
-/// Appends nanoseconds as seconds, behind `-` where they are below 0.
+/// Appends nanoseconds as seconds, with nine digits of a fraction, behind `-` where they are below 0.
 fn put_as_signed_seconds(text: &mut String, nanoseconds: i128) -> Result<(), AllocError>
     ensures { OnOk result (string_bytes text.new ≡ string_bytes text.old ++ signed_seconds_text nanoseconds) }
 {
@@ -68,7 +68,8 @@ fn nanoseconds_between(first: Time, time: Time) -> i128
     nanoseconds_since_1970(time) - nanoseconds_since_1970(first)
 }
 
-/// Appends the seconds from a first time to another one.
+/// Appends the seconds from a first time to another one, with nine digits of a fraction, behind `-` where that one is
+/// before.
 pub(crate) fn put_elapsed(text: &mut String, first: Time, time: Time) -> Result<(), AllocError>
     ensures { OnOk result (string_bytes text.new ≡ string_bytes text.old ++ elapsed_text first time) }
 {

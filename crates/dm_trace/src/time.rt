@@ -21,7 +21,7 @@ pub enum Clock {
     Since(Time),
 }
 
-/// Appends a point, and the last digits of a number.
+/// Appends a point, and so many last digits of a number.
 fn put_point_and_digits(text: &mut String, count: u8, number: u64) -> Result<(), AllocError>
     ensures { OnOk result (string_bytes text.new ≡ string_bytes text.old ++ codes "." ++ last_digits count number) }
 {
@@ -29,7 +29,8 @@ fn put_point_and_digits(text: &mut String, count: u8, number: u64) -> Result<(),
     put_last_digits(text, count, number)
 }
 
-/// Appends the fraction of a second: the digits of a power of ten, else nine.
+/// Appends a point and the fraction of a second: as many digits as the power of ten that the resolution is, and nothing
+/// where that is 0; of a power of two nine digits.
 fn put_fraction(text: &mut String, time: Time) -> Result<(), AllocError>
     ensures { OnOk result (string_bytes text.new ≡ string_bytes text.old ++ fraction_text time) }
 {
@@ -69,7 +70,7 @@ fn put_instant(text: &mut String, time: Time) -> Result<(), AllocError>
     }
 }
 
-/// Appends a time as it is said.
+/// Appends a time as the clock has it: as date and time of day, or as seconds since a first time.
 fn put_time_by_clock(text: &mut String, clock: Clock, time: Time) -> Result<(), AllocError>
     ensures { OnOk result (string_bytes text.new ≡ string_bytes text.old ++ clock_text clock time) }
 {

@@ -1,12 +1,12 @@
 -- Messages that are handed out one after the other.
 use Rattle.std.proofs.Common.{◌≡◌, ◌+◌, ◌++◌, ◌∷◌, [], ℕ, List, Bool, true, false, Some, inl, inr, Result, Ok, Err, IfOk, append_assoc, append-nil, ap, sym, ◌∙◌, refl, subst}
 use Rattle.dm_tables.specs.Definitions.{Definitions}
-use Rattle.dm_view_lines.specs.declared.said.Task.{Task}
+use Rattle.dm_view_lines.specs.declared.message_reports.Task.{Task}
 use Rattle.dm_view_lines.specs.Counts.{tally_of, tallied}
 use Rattle.dm_view_lines.specs.Said.{SaysFronted}
 use Rattle.dm_trace_view.specs.declared.filter.Filter.{Filter}
-use Rattle.dm_trace_view.specs.declared.handed.Direction.{Direction}
-use Rattle.dm_trace_view.specs.declared.handed.Numbered.{Numbered}
+use Rattle.dm_trace_view.specs.declared.handed_messages.Direction.{Direction}
+use Rattle.dm_trace_view.specs.declared.handed_messages.Numbered.{Numbered}
 use Rattle.dm_trace_view.specs.Filters.{PassesFilter}
 use Rattle.dm_trace_view.specs.Fronts.{front_seen}
 use Rattle.dm_trace_view.specs.Handed.{SaysOne, SaysSome}

@@ -3,7 +3,7 @@ use Rattle.std.proofs.Common.{◌≡◌, ◌++◌, ◌∷◌, [], ℕ, List, app
 use Rattle.dm_connections.specs.declared.ends.Ends.{Ends}
 use Rattle.dm_connections.specs.declared.limits.Limits.{Limits}
 use Rattle.dm_connections.specs.Held.{HeldTable}
-use Rattle.dm_view_lines.specs.declared.said.Task.{Task}
+use Rattle.dm_view_lines.specs.declared.message_reports.Task.{Task}
 use Rattle.dm_trace_view.specs.Traces.{HoldsTooMuch, LetsGo, gone_text, more_of}
 
 -- whatever is let go from here on, behind what was it is what is let go of all

@@ -5,10 +5,10 @@ use Rattle.dm_connections.specs.Choices.{WantsBetween}
 use Rattle.dm_connections.specs.Held.{HeldTable, SentGoesIn, HasNoPlaceBetween, found_ends}
 use Rattle.dm_tables.specs.Definitions.{Definitions}
 use Rattle.dm_trace_view.specs.declared.counts.Counts.{Counts}
-use Rattle.dm_trace_view.specs.declared.handed.Direction.{Direction}
-use Rattle.dm_trace_view.specs.declared.heard.Unread.{Unread}
-use Rattle.dm_trace_view.specs.declared.hearing.Hearing.{Hearing}
-use Rattle.dm_trace_view.specs.declared.hearing.Reckoned.{Reckoned}
+use Rattle.dm_trace_view.specs.declared.handed_messages.Direction.{Direction}
+use Rattle.dm_trace_view.specs.declared.sent_and_unread.Unread.{Unread}
+use Rattle.dm_trace_view.specs.declared.packet_context.Hearing.{Hearing}
+use Rattle.dm_trace_view.specs.declared.packet_context.Reckoned.{Reckoned}
 use Rattle.dm_trace_view.specs.Handed.{SaysHanded}
 use Rattle.dm_trace_view.specs.Talks.{Talk}
 use Rattle.dm_trace_view.specs.Traces.{direction_by, counted_sent, unread_before, unread_since, unread_text, LetsGo, SaysSent}

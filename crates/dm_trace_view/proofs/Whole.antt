@@ -3,7 +3,7 @@ use Rattle.std.proofs.Common.{inl, Option, Some, None, List, [], ℕ, refl}
 use Rattle.dm_capture.specs.Captures.{new_progress}
 use Rattle.dm_capture.specs.Laws.{with_piece}
 use Rattle.dm_tables.specs.Definitions.{Definitions}
-use Rattle.dm_view_lines.specs.declared.gathered.Style.{Style}
+use Rattle.dm_view_lines.specs.declared.waiting_text.Style.{Style}
 use Rattle.dm_view_lines.specs.declared.put_fault.PutFault.TheVariants as put
 use Rattle.dm_view_lines.specs.declared.run_fault.RunFault.TheVariants.{Memory}
 use Rattle.dm_view_lines.specs.Colours.{styled}

@@ -7,7 +7,7 @@ use Rattle.dm_connections.specs.Held.{all_octets}
 use Rattle.dm_flows.specs.Connections.{pending_in}
 use Rattle.dm_tables.specs.Definitions.{Definitions}
 use Rattle.dm_wire.specs.Codes.{max_message_len}
-use Rattle.dm_view_lines.specs.declared.gathered.Style.{Style}
+use Rattle.dm_view_lines.specs.declared.waiting_text.Style.{Style}
 use Rattle.dm_view_lines.specs.declared.run_fault.RunFault.{RunFault}
 use Rattle.dm_view_lines.specs.declared.tally.Tally.{Tally}
 use Rattle.dm_view_lines.specs.Colours.{styled}

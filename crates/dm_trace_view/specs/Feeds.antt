@@ -2,7 +2,7 @@
 use Rattle.std.specs.Prelude.{◌≡◌, ◌≢◌, ℕ, Bool, true, Option, None, Some, OnSome, List, [], ⊤}
 use Rattle.std.specs.Io.KnownBytes.{Consumes, IsAtEnd, Keeps}
 use Rattle.dm_capture.specs.declared.fault.CaptureFault.{CaptureFault}
-use Rattle.dm_capture.specs.declared.front.Layout.TheVariants.{Start}
+use Rattle.dm_capture.specs.declared.front_item.Layout.TheVariants.{Start}
 use Rattle.dm_capture.specs.Captures.{Progress, EndsWith}
 use Rattle.dm_capture.specs.Laws.{with_piece}
 use Rattle.dm_view_lines.specs.declared.run_fault.RunFault.{RunFault}

@@ -9,8 +9,8 @@ use Rattle.dm_trace.specs.Ends.{endpoint_text}
 use Rattle.dm_trace.specs.Fronts.{ends_text}
 use Rattle.dm_view.specs.JsonWords.{number_json}
 use Rattle.dm_view_lines.specs.Json.{json_line, error_member}
-use Rattle.dm_view_lines.specs.declared.said.Task.{Task}
-use Rattle.dm_view_lines.specs.declared.said.Task.TheVariants.{Show, Check, ShowJson, CheckJson}
+use Rattle.dm_view_lines.specs.declared.message_reports.Task.{Task}
+use Rattle.dm_view_lines.specs.declared.message_reports.Task.TheVariants.{Show, Check, ShowJson, CheckJson}
 use Rattle.dm_view_lines.specs.declared.tally.Tally.{Tally}
 use Rattle.dm_trace_view.specs.declared.counts.Counts.{Counts}
 use Rattle.dm_trace_view.specs.declared.lost.Lost.{Lost}

@@ -24,12 +24,12 @@ use Rattle.dm_trace.specs.declared.seen.Transport.{Transport}
 use Rattle.dm_trace.specs.declared.seen.Transport.TheVariants.{Tcp, Sctp}
 use Rattle.dm_trace.specs.declared.time.Clock.{Clock}
 use Rattle.dm_trace.specs.declared.time.Clock.TheVariants.{Utc, Since}
-use Rattle.dm_view_lines.specs.declared.said.Task.{Task}
+use Rattle.dm_view_lines.specs.declared.message_reports.Task.{Task}
 use Rattle.dm_trace_view.specs.declared.counts.Counts.{Counts}
-use Rattle.dm_trace_view.specs.declared.handed.Direction.{Direction}
-use Rattle.dm_trace_view.specs.declared.heard.Unread.{Unread}
-use Rattle.dm_trace_view.specs.declared.hearing.Hearing.{Hearing}
-use Rattle.dm_trace_view.specs.declared.hearing.Reckoned.{Reckoned}
+use Rattle.dm_trace_view.specs.declared.handed_messages.Direction.{Direction}
+use Rattle.dm_trace_view.specs.declared.sent_and_unread.Unread.{Unread}
+use Rattle.dm_trace_view.specs.declared.packet_context.Hearing.{Hearing}
+use Rattle.dm_trace_view.specs.declared.packet_context.Reckoned.{Reckoned}
 use Rattle.dm_trace_view.specs.declared.lost.Lost.{Lost}
 use Rattle.dm_trace_view.specs.declared.lost.Lost.TheVariants as lost
 use Rattle.dm_trace_view.specs.declared.times.Times.{Times}

@@ -28,7 +28,7 @@ pub struct Counts {
     pub cut: u64,
 }
 
-/// How many messages there were.
+/// How many messages there were, good and bad.
 fn message_count(tally: Tally) -> u64
     ensures { result ≡ messages_in tally }
 {
@@ -106,7 +106,8 @@ fn put_counts_json(
     json.put_line(text)
 }
 
-/// Appends what ends a check: the counts. Where memory is wanted, what is appended is of no use.
+/// Appends the counts where the task is a check, and nothing where it is to show. Where memory is wanted, what is
+/// appended is of no use.
 pub(crate) fn put_counts(
     alloc: Global,
     text: &mut String,

@@ -1,4 +1,4 @@
-//! Which messages something is said of: those that say all that is asked for.
+//! The filter of messages: those pass it that say all that it asks for.
 ghost use Rattle.std.specs.Prelude.{◌≡◌, List, not};
 ghost use Rattle.std.specs.List.{list_any};
 ghost use Rattle.dm_wire.specs.declared.avp.Avp.{Avp};
@@ -109,7 +109,7 @@ fn says_session(message: &MessageRef<'_>, session: Option<&[u8]>) -> bool
     }
 }
 
-/// Whether a command has this name.
+/// Whether the dictionary has this name for the command of a header.
 fn is_command_named(dictionary: &Dictionary, header: &Header, name: &[u8]) -> bool
     ensures { result ≡ bears_name (command_of dictionary.now header.now) name.now }
 {
@@ -119,7 +119,7 @@ fn is_command_named(dictionary: &Dictionary, header: &Header, name: &[u8]) -> bo
     }
 }
 
-/// Whether its command is the one that is asked for, or none is.
+/// Whether the command of a header is the one that is asked for; where none is, each is.
 fn says_command(dictionary: &Dictionary, header: &Header, wanted: Option<Wanted<'_>>) -> bool
     ensures { result ≡ tells_command dictionary.now wanted.entry header.now }
 {
@@ -138,7 +138,7 @@ fn is_bad(dictionary: &Dictionary, message: &MessageRef<'_>) -> bool
     !matches!(dictionary.judge(message), Judged::Good)
 }
 
-/// Whether a message says all that is asked for.
+/// Whether a message passes the filter: it says all that is asked for.
 fn message_passes_filter(
     filter: Filter<'_>,
     dictionary: &Dictionary,
@@ -153,7 +153,8 @@ fn message_passes_filter(
         && (!filter.bad || is_bad(dictionary, message))
 }
 
-/// Whether something is said of these octets. It never answers want of memory.
+/// Whether these octets pass the filter: a message that says all that is asked for, or octets that are none, where no
+/// host, session or command is asked for. It never answers want of memory.
 pub(crate) fn passes_filter(filter: Filter<'_>, dictionary: &Dictionary, octets: &[u8]) -> bool
     ensures { PassesFilter filter.entry dictionary.now octets.now result }
 {

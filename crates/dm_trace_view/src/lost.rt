@@ -67,7 +67,7 @@ fn put_lost_words(text: &mut String, lost: Lost) -> Result<(), AllocError>
     }
 }
 
-/// Appends a line of words.
+/// Appends a line that tells in words what was lost.
 fn put_lost_line(text: &mut String, told: LostIn) -> Result<(), AllocError>
     ensures { OnOk result (string_bytes text.new ≡ string_bytes text.old ++ lost_line told) }
 {
@@ -79,7 +79,7 @@ fn put_lost_line(text: &mut String, told: LostIn) -> Result<(), AllocError>
     text.push_str("\n")
 }
 
-/// Appends an end under this key.
+/// Appends an end of a connection as a member under this key.
 fn put_end_member(
     json: &mut JsonText,
     room: &mut String,
@@ -94,7 +94,7 @@ fn put_end_member(
     json.text_member(name, room.as_str())
 }
 
-/// Appends what was lost, and closes the object.
+/// Appends what was lost as a member, and closes the object.
 fn put_lost_member(json: &mut JsonText, lost: Lost) -> Result<(), AllocError>
     ensures { OnOk result (json.new ≡ json.old ++ members_tokens (lost_member lost)) }
 {
@@ -131,7 +131,7 @@ fn put_lost_object(json: &mut JsonText, room: &mut String, told: LostIn) -> Resu
     Ok(())
 }
 
-/// Appends an object on a line of its own.
+/// Appends an object on a line of its own that tells what was lost.
 fn put_lost_json(alloc: Global, text: &mut String, told: LostIn) -> Result<(), AllocError>
     ensures { OnOk result (string_bytes text.new ≡ string_bytes text.old ++ lost_json told) }
 {

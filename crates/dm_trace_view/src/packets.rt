@@ -21,7 +21,7 @@ pub(crate) struct Output {
     pub waits: Vec<u8>,
 }
 
-/// Says a packet, and gathers that.
+/// Puts what is said of a packet behind the text that waits to be written.
 fn put_packet<S: PacketSpeaker, W: Write>(
     alloc: Global,
     dictionary: &Dictionary,
@@ -50,7 +50,8 @@ fn put_packet<S: PacketSpeaker, W: Write>(
     Ok(())
 }
 
-/// Says all whole packets that the capture holds, and gathers that. It tells the fault that stands behind them.
+/// Puts what is said of all whole packets that the capture holds behind the text that waits to be written. It answers
+/// the fault that stands behind them, or None.
 pub(crate) fn put_held_packets<S: PacketSpeaker, W: Write>(
     alloc: Global,
     dictionary: &Dictionary,
@@ -85,7 +86,7 @@ pub(crate) fn put_held_packets<S: PacketSpeaker, W: Write>(
     Err(PutFault::Memory)
 }
 
-/// A fault of the capture, or want of memory.
+/// The fault of a capture; an Err where it is want of memory.
 fn fault_or_want_of_memory(fault: CaptureFault) -> Result<Option<CaptureFault>, PutFault>
     ensures fault { IfOk result (λ told. (told ≡ Some fault) × (fault.kind ≢ FaultKind.OutOfMemory)) }
     ensures memory { IfErr result (λ put. put ≡ Memory) }

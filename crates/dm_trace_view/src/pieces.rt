@@ -34,7 +34,8 @@ fn write_waiting_after_fault<W: Write>(
     }
 }
 
-/// Says all whole packets that the capture holds, and writes that. It tells the fault that stands behind them.
+/// Writes what is said of all whole packets that the capture holds. It answers the fault that stands behind them, or
+/// None.
 fn write_held_packets<S: PacketSpeaker, W: Write>(
     alloc: Global,
     dictionary: &Dictionary,
@@ -65,7 +66,7 @@ fn write_held_packets<S: PacketSpeaker, W: Write>(
     }
 }
 
-/// What is answered where a read fails: false where it was interrupted, so that it is made again.
+/// What is answered where a read fails: false where it was interrupted, so that it is made again, else the fault.
 fn answer_read_error(error: Error) -> Result<bool, RunFault>
     ensures again { IfOk result (λ end. end ≡ false) }
     ensures failed { IfErr result (λ fault. fault ≡ RunFault.Read error) }
@@ -76,7 +77,7 @@ fn answer_read_error(error: Error) -> Result<bool, RunFault>
     Err(RunFault::Read(error))
 }
 
-/// Feeds what the reader has at hand. True at its end.
+/// Feeds the capture what the reader has at hand. True where the reader is at its end.
 fn feed_piece<R: BufRead>(capture: &mut CaptureReader, reader: &mut R) -> Result<bool, RunFault>
     ensures fed { IfOk result (ReadsPiece capture.old (R.remaining reader.old) capture.new (R.remaining reader.new)) }
     ensures none { IfErr result (λ fault. ReadsNoPiece fault capture.old (R.remaining reader.old) capture.new
@@ -94,7 +95,7 @@ fn feed_piece<R: BufRead>(capture: &mut CaptureReader, reader: &mut R) -> Result
     Ok(size == 0)
 }
 
-/// What is wrong where the file ends.
+/// What is wrong where the file ends; None where nothing is.
 fn fault_at_end(capture: &CaptureReader) -> Option<CaptureFault>
     ensures { FileEnds capture.now result }
 {
@@ -104,7 +105,8 @@ fn fault_at_end(capture: &CaptureReader) -> Option<CaptureFault>
     }
 }
 
-/// Says the packets of a capture that a reader gives. It tells the fault up to which they are said.
+/// Writes what is said of the packets of a capture that a reader gives, as they come. It answers the fault up to which
+/// they were read, or None where the file has none.
 pub(crate) fn say_packets<S: PacketSpeaker, R: BufRead, W: Write>(
     alloc: Global,
     dictionary: &Dictionary,

@@ -11,9 +11,9 @@ ghost use Rattle.dm_trace_view.specs.Traces.{more_of};
 
 use crate::counts::Counts;
 use crate::ending::put_ending;
-use crate::handed::Numbered;
-use crate::hearing::Reckoned;
+use crate::handed_messages::Numbered;
 use crate::looks::Looks;
+use crate::packet_context::Reckoned;
 use crate::packets::Output;
 use crate::pieces::say_packets;
 use crate::trace::TraceSpeaker;
@@ -69,7 +69,7 @@ fn let_all_go<C: TwoWay>(connections: &mut Connections<C>, counted: u64) -> u64
     so_far
 }
 
-/// What was counted, with what is held at the end. Nothing is held then.
+/// What was counted, with the octets as passed over that came and weren't handed out. It lets all connections go.
 fn take_final_counts(speaker: &mut TraceSpeaker<'_>) -> Counts
     ensures { result ≡ counts_behind speaker.old }
 {
@@ -81,7 +81,7 @@ fn take_final_counts(speaker: &mut TraceSpeaker<'_>) -> Counts
     }
 }
 
-/// Writes what ends the text.
+/// Writes what ends the text of a capture: its fault, if it has one, and what a check counts.
 fn write_ending<W: Write>(
     alloc: Global,
     style: Style,
@@ -154,7 +154,7 @@ pub fn say_capture<R: BufRead, W: Write>(
     }
 }
 
-/// Writes what ends the text, and tells whether all is good.
+/// Writes what ends the text of a capture, and answers true where the file has no fault and no message is bad.
 fn end_capture<W: Write>(
     alloc: Global,
     style: Style,

@@ -3,7 +3,7 @@ ghost use Rattle.std.specs.Prelude.{◌≡◌, ◌++◌, ℕ, List, OnOk};
 ghost use Rattle.std.specs.String.{string_bytes};
 ghost use Rattle.dm_tables.specs.Definitions.{Definitions};
 ghost use Rattle.dm_capture.specs.Packets.{Captured, captured_of};
-ghost use Rattle.dm_view_lines.specs.declared.said.Task.{Task};
+ghost use Rattle.dm_view_lines.specs.declared.message_reports.Task.{Task};
 
 use dm_capture::Packet;
 use dm_dict::{Dictionary, NoMemory};

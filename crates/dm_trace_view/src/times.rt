@@ -14,7 +14,7 @@ pub enum Times {
     Relative,
 }
 
-/// The first time that is known.
+/// The first of both times that is known; None where neither is.
 pub(crate) fn first_time(first: Option<Time>, time: Option<Time>) -> Option<Time>
     ensures { result ≡ first_time_of first time }
 {
@@ -25,7 +25,8 @@ pub(crate) fn first_time(first: Option<Time>, time: Option<Time>) -> Option<Time
 }
 
 impl Times {
-    /// The clock by which times are said; a relative one began with the first time.
+    /// The clock by which times are said: seconds since the first time, where times are relative and it is known, else
+    /// date and time of day.
     pub(crate) fn clock(self, first: Option<Time>) -> Clock
         ensures { result ≡ clock_of self first }
     {

@@ -8,9 +8,9 @@ ghost use Rattle.dm_trace_view.specs.Traces.{counted_passed, hearing_of, carries
 ghost use Rattle.dm_trace_view.specs.Traces.{SaysSegment, SaysSctp, SaysOther};
 
 use crate::counts::Counts;
-use crate::heard::put_sent;
-use crate::hearing::{Hearing, Reckoned};
 use crate::looks::Looks;
+use crate::packet_context::{Hearing, Reckoned};
+use crate::sent_and_unread::put_sent;
 use crate::speaker::PacketSpeaker;
 use crate::times::first_time;
 use dm_associations::Associations;
@@ -33,7 +33,8 @@ pub(crate) struct TraceSpeaker<'a> {
     pub(crate) reckoned: Reckoned,
 }
 
-/// Counts a packet that has neither a segment nor chunks: a fragment, or one that was captured in part.
+/// The counts with one more packet that has neither a segment nor chunks: a fragment, or one that was captured in part.
+/// None else is counted.
 fn counts_with_passed(counts: Counts, why: Passed) -> Counts
     ensures { result ≡ counted_passed why counts }
 {
@@ -58,7 +59,8 @@ fn is_other_protocol(why: Passed) -> bool
 }
 
 impl<'a> TraceSpeaker<'a> {
-    /// How a packet is heard.
+    /// The context in which a packet is told: the task, what is looked at and the clock, and its time, its number and
+    /// what carries its messages.
     fn hearing(&self, task: Task, packet: &Packet, transport: Transport) -> Hearing<'a>
         ensures { result ≡ hearing_of self.now task (captured_of packet.now) transport }
     {
@@ -72,7 +74,8 @@ impl<'a> TraceSpeaker<'a> {
         }
     }
 
-    /// Says what the connection of a segment says, where it is looked at.
+    /// Gives a segment to its connection, where that is looked at, and appends what is said of the messages that it
+    /// hands out and of what is lost.
     fn put_segment(
         &mut self,
         alloc: Global,
@@ -100,7 +103,8 @@ impl<'a> TraceSpeaker<'a> {
         Ok(())
     }
 
-    /// Says what the association of an SCTP packet says, where it is looked at.
+    /// Gives an SCTP packet to its association, where that is looked at, and appends what is said of the messages that
+    /// it hands out and of what is lost.
     fn put_sctp(
         &mut self,
         alloc: Global,
@@ -128,14 +132,15 @@ impl<'a> TraceSpeaker<'a> {
         Ok(())
     }
 
-    /// Counts a packet that has neither a segment nor chunks.
+    /// Counts a packet that has neither a segment nor chunks, if it is a fragment or was captured in part.
     fn count_passed_packet(&mut self, why: Passed)
         ensures { self.new ≡ with_passed self.old why }
     {
         self.reckoned.counts = counts_with_passed(self.reckoned.counts, why);
     }
 
-    /// Says what the association of a packet says that has no segment, where it has chunks; else it is counted.
+    /// Gives the SCTP packet in a packet to its association, and appends what is said of it; a packet that holds none
+    /// is counted, if it is a fragment or was captured in part.
     fn put_sctp_or_count(
         &mut self,
         alloc: Global,

@@ -22,8 +22,8 @@ pub fn steps_go_by_no_number()
     ensures { StepsGoByNoNumber }
 {}
 
-/// Nor does a peer: a driver may number connections as it likes, no two alike. Under other numbers a peer does the same
-/// at the same events, octet for octet, under those numbers, and refuses the same.
+/// A peer goes by no number of a connection: a driver may number connections as it likes, no two alike. Under other
+/// numbers a peer does the same at the same events, octet for octet, under those numbers, and refuses the same.
 pub fn peers_go_by_no_number()
     ensures { PeersGoByNoNumber }
 {
@@ -54,14 +54,14 @@ pub fn each_neighbour_is_its_side()
     each_event_keeps_settled();
 }
 
-/// What happens to the rest of a node is no part of that: a step that concerns another neighbour, or nobody, leaves
-/// what befell this one, and its turns.
+/// What happens to the rest of a node is no part of what befalls a neighbour: a step that concerns another neighbour,
+/// or nobody, leaves what befell this one, and its turns.
 pub fn others_leave_the_story()
     ensures { OthersLeaveTheStory }
 {}
 
-/// Each run of two new peers is played so: there are two nodes with a neighbour each to which just that happened, under
-/// whatever numbers.
+/// Each run of two new peers is played by neighbours: there are two nodes with a neighbour each to which just that
+/// happened, under whatever numbers.
 pub fn each_run_is_played()
     ensures { EachRunIsPlayed }
 {
@@ -80,8 +80,9 @@ pub fn two_nodes_agree()
     each_run_is_promised::<Peer, Octets>();
 }
 
-/// Wherever that run falls quiet, whatever was lost and restarted, and the two are configured for each other, both are
-/// Closed, or both are open on one link in opposite roles, I-Open against R-Open.
+/// Where a neighbour of one node and a neighbour of another, configured for each other, play the sides of one run:
+/// wherever that run falls quiet, whatever was lost and restarted, both are Closed, or both are open on one link in
+/// opposite roles, I-Open against R-Open.
 pub fn quiet_nodes_are_shut_or_open()
     ensures { QuietNodesAreShutOrOpen }
 {
@@ -89,9 +90,9 @@ pub fn quiet_nodes_are_shut_or_open()
     each_octet_quiet_run_is_closed_or_open();
 }
 
-/// What was handed up to the one neighbour on a link is a front of what the other's user submitted on it: each message
-/// once, in order, octet for octet, and nothing else. Where the side is open on the link and the link had no loss, the
-/// rest is what is under way.
+/// Where a neighbour of one node and a neighbour of another play the sides of one run, what was handed up to the one on
+/// a link is a front of what the other's user submitted on it: each message once, in order, octet for octet, and
+/// nothing else. Where the side is open on the link and the link had no loss, the rest is what is under way.
 pub fn two_nodes_deliver()
     ensures { TwoNodesDeliver }
 {

@@ -61,8 +61,9 @@ pub fn each_run_delivers<P, M>()
     each_step_keeps_shape();
 }
 
-/// What such peers hand up at an event is the message that it brings, once, or nothing: nothing is handed up but where
-/// a message arrives.
+/// What two closed peers that send what is submitted and hand up what comes (`CarriesMessages`) hand up at an event of
+/// any list of happenings is the message that it brings, once, or nothing: nothing is handed up but where a message
+/// arrives.
 pub fn each_run_hands_up_what_came<P, M>()
     ensures { EachRunHandsUpWhatCame P M }
 {
@@ -71,26 +72,28 @@ pub fn each_run_hands_up_what_came<P, M>()
     each_step_keeps_shape();
 }
 
-/// A run without losses of two closed peers, from where nothing is under way, puts in one course, up to what is
-/// still to come: a CER on each connection that a taken Start made, from its opener; then, where both sides
-/// started, the winner's disconnect of its own; the CEA on the one that the election keeps, with the number of its
-/// CER; and the disconnect that answers the winner's. So it is at most two CERs, one CEA and two disconnects. Where
-/// a Start is taken and it falls quiet, all of the course was put in, and both are open on the connection that the
-/// election keeps.
+/// A clean run (of Starts, Acks, deliveries and pieces alone) of two closed peers, from where nothing is under way,
+/// puts in one course, up to what is still to come: a CER on each connection that a taken Start made, from its opener;
+/// then, where both sides started, the winner's disconnect of its own; the CEA on the one that the election keeps, with
+/// the number of its CER; and the disconnect that answers the winner's. So it is at most two CERs, one CEA and two
+/// disconnects. Where a Start is taken and it falls quiet, all of the course was put in, and both are open on the
+/// connection that the election keeps.
 ///
 /// `C` is what a peer is configured with, `H` the header of a message.
 pub fn each_clean_run_settles<P, M, C, H>()
     ensures { EachCleanRunSettles P M C H }
 {}
 
-/// Such a run falls quiet, in whatever order things come: it is quiet where no Ack and no delivery is done any more,
-/// after nine steps, and where one side alone starts after four. A piece that ends no message is no step.
+/// A clean run (of Starts, Acks, deliveries and pieces alone) of two closed peers, from where nothing is under way,
+/// falls quiet, in whatever order things come: it is quiet where no Ack and no delivery is done any more, after nine
+/// steps, and where one side alone starts after four. A piece that ends no message is no step.
 pub fn each_clean_run_falls_quiet<P, M, C, H>()
     ensures { EachCleanRunFallsQuiet P M C H }
 {}
 
-/// Such a run can fall quiet: after some Acks and deliveries, with its own steps nine at most, nothing is under way,
-/// and both are open on the connection that the election keeps.
+/// A clean run (of Starts, Acks, deliveries and pieces alone) of two closed peers, from where nothing is under way, can
+/// fall quiet: after some Acks and deliveries, with its own steps nine at most, nothing is under way, and both are open
+/// on the connection that the election keeps.
 pub fn each_clean_run_can_fall_quiet<P, M, C, H>()
     ensures { EachCleanRunCanFallQuiet P M C H }
 {}
@@ -106,8 +109,8 @@ pub fn quiet_is_shared<P, M>()
     ensures { QuietIsShared P M }
 {}
 
-/// In such a world both are Closed, or each stands on one connection alone, the same one, in opposite roles, if one
-/// of them at least didn't lose its election to the other.
+/// Where nothing is under way in a sound world, whatever happened before, both are Closed, or each stands on one
+/// connection alone, the same one, in opposite roles, if one of them at least didn't lose its election to the other.
 pub fn quiet_is_joined<P, M>()
     ensures { QuietIsJoined P M }
 {}
@@ -136,8 +139,9 @@ pub fn each_world_can_clear<P, M>()
     ensures { EachWorldCanClear P M }
 {}
 
-/// And then a Start of either side, the Ack and two deliveries open both on the connection that it makes: a list that
-/// does it exists, which isn't to say that peers take it by themselves.
+/// From each sound world, whatever happened before, both sides can restart, and after some deliveries a Start of either
+/// side, the Ack and two deliveries open both on the connection that it makes: a list that does it exists, which isn't
+/// to say that peers take it by themselves.
 pub fn each_world_can_open<P, M, C, H>()
     ensures { EachWorldCanOpen P M C H }
 {}

@@ -99,7 +99,7 @@ fn days_of_month(year: u32, month: u32) -> u32
     }
 }
 
-/// April, June, September and November.
+/// Whether the month has thirty days: April, June, September or November.
 fn has_thirty_days(month: u32) -> bool
     ensures { result ≡ is_short month }
 {

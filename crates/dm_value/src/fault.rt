@@ -1,6 +1,8 @@
 //! What data of a type can have wrong, and want of memory.
 ghost use Rattle.std.specs.Prelude.{◌≡◌};
+ghost use Rattle.dm_value.specs.Making.{value_fault_code};
 
+use dm_wire::codes::results;
 use std::alloc::{AllocError, AllocFailed};
 use thiserror::Error;
 
@@ -19,6 +21,20 @@ pub enum ValueFault {
     /// A growth was refused.
     #[error("out of memory")]
     NoMemory,
+}
+
+impl ValueFault {
+    /// The Result-Code that tells the fault to a peer (RFC 6733, 7.1.5): 5014 or 5004. `TooLong` and `NoMemory` are no
+    /// faults of a peer's, and have none.
+    pub fn result_code(&self) -> Option<u32>
+        ensures { result ≡ value_fault_code self.now }
+    {
+        match self {
+            ValueFault::WrongLength => Some(results::INVALID_AVP_LENGTH),
+            ValueFault::WrongValue => Some(results::INVALID_AVP_VALUE),
+            ValueFault::TooLong | ValueFault::NoMemory => None,
+        }
+    }
 }
 
 impl From<AllocError> for ValueFault {

@@ -3,24 +3,24 @@
 
 mod address;
 mod avp_type;
+mod data_faults;
 mod date;
 mod fault;
-mod judge;
 pub mod laws;
-mod making;
 mod numbers;
 mod printing;
 mod read;
 mod text;
 mod time;
 mod value;
+mod value_to_avp;
 mod write;
 
 pub use address::{Address, Ip};
 pub use avp_type::{AvpType, least_len};
+pub use data_faults::value_fault;
 pub use date::{Utc, utc_date};
 pub use fault::{NoMemory, ValueFault};
-pub use judge::value_fault;
 pub use printing::Name;
 pub use read::read_value;
 pub use text::Text;

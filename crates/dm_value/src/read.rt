@@ -46,7 +46,7 @@ pub fn read_value(alloc: Global, kind: AvpType, octets: &[u8]) -> Result<Value, 
     }
 }
 
-/// The value of octets with which nothing is wrong.
+/// The value of octets with which nothing is wrong; or want of memory, where it holds octets.
 fn read_faultless_value(alloc: Global, kind: AvpType, octets: &[u8]) -> Result<Value, ValueFault>
     requires { flaw kind octets.now ≡ None }
     ensures found { IfOk result (λ value. Means kind octets.now value) }
@@ -100,6 +100,7 @@ fn read_group(alloc: Global, octets: &[u8]) -> Result<AvpList, ValueFault>
     }
 }
 
+/// The text that the octets are, which are UTF-8; or want of memory.
 fn read_text(alloc: Global, octets: &[u8]) -> Result<Text, ValueFault>
     requires { flaw AvpType.UTF8String octets.now ≡ None }
     ensures found { IfOk result (λ text. Means AvpType.UTF8String octets.now (Value.Text text)) }

@@ -65,7 +65,7 @@ fn is_ip_given_as_other(address: &Address) -> bool
     }
 }
 
-/// The octets of a value that is of its type's form.
+/// The octets of a value that is of its type's form; or `TooLong` for a group of a too long AVP, else want of memory.
 fn write_well_formed_value(alloc: Global, value: &Value) -> Result<Vec<u8>, ValueFault>
     requires { IsMisshapen value.now → ⊥ }
     ensures found { IfOk result (λ octets. Means (type_of value.now) octets.items value.now) }
@@ -113,7 +113,8 @@ fn write_ip(alloc: Global, ip: &Ip) -> Result<Vec<u8>, AllocError>
     }
 }
 
-/// The AVPs, one after the other.
+/// The octets of the AVPs, one after the other; or `TooLong` where the AVP Length of one would pass 16777215, else want
+/// of memory.
 fn write_group(alloc: Global, avps: &AvpList) -> Result<Vec<u8>, ValueFault>
     ensures found { IfOk result (λ octets. Means AvpType.Grouped octets.items (Value.Group avps.now)) }
     ensures canonical { IfOk result (λ octets. octets.items ≡ canonical_list avps.now) }

@@ -10,7 +10,7 @@ ghost use Rattle.dm_view.specs.View.{avp_name, front_view, avp_view, avps_view, 
 
 use crate::code_and_flags::put_code_vendor_and_flags;
 use crate::data::put_data;
-use crate::words::{put_indent, put_octets_name, put_words_and_octets};
+use crate::texts_and_numbers::{put_indent, put_octets_name, put_words_and_octets};
 use dm_dict::{AvpDef, AvpType, Dictionary};
 use dm_wire::{AvpRef, AvpsRef, spells_avps};
 use std::alloc::AllocError;
@@ -51,7 +51,7 @@ fn put_data_line(text: &mut String, words: &str, octets: &[u8]) -> Result<(), Al
     text.push_str("\n")
 }
 
-/// Appends an AVP at this level, inside which so many groups may stand.
+/// Appends an AVP at this level, inside which `depth` groups may stand.
 #[cycle(viewing)]
 fn put_avp(
     text: &mut String,
@@ -78,7 +78,8 @@ fn put_avp(
     text.push_str("\n")
 }
 
-/// Appends the members of a group at this level, where so many groups may stand inside each other.
+/// Appends the members of a group at this level, or its octets behind `too deep` where `depth` is 0, and behind `wrong
+/// length` where they spell no AVPs.
 #[cycle(viewing)]
 fn put_group(
     text: &mut String,
@@ -102,7 +103,7 @@ fn put_group(
     put_avps(text, dictionary, members, depth - 1, level)
 }
 
-/// Appends AVPs at this level, where so many groups may stand inside each other.
+/// Appends AVPs at this level, where `depth` groups may stand inside each other.
 #[cycle(viewing)]
 pub(crate) fn put_avps(
     text: &mut String,

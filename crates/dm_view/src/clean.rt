@@ -5,7 +5,8 @@ ghost use Rattle.dm_view.specs.Clean.{NeedsNoEscape, CleanBetween};
 
 use std::simd::prelude::*;
 
-/// Whether all octets are ASCII from this one on, none a control, a `"` or a `\`.
+/// True only where each octet lies from `least` to 126 and is no `"` and no `\`, so that none needs an escape. False
+/// says nothing of them.
 pub(crate) fn are_clean(octets: &[u8], least: u8) -> bool
     requires bound { least ≤ 33 }
     ensures { result ≡ true → All (NeedsNoEscape least) octets.now }
@@ -19,7 +20,8 @@ pub(crate) fn are_clean(octets: &[u8], least: u8) -> bool
     }
 }
 
-/// The same of sixteen octets at least: those at the end may be looked at twice.
+/// True only where each of these sixteen octets or more is clean (`are_clean`). Those at the end may be looked at
+/// twice.
 fn are_many_clean(octets: &[u8], least: u8) -> bool
     requires bound { least ≤ 33 }
     requires many { 16 ≤ length octets.now }
@@ -31,7 +33,7 @@ fn are_many_clean(octets: &[u8], least: u8) -> bool
     are_runs_clean(octets, (octets.len() - 1) / 16, least)
 }
 
-/// The same of so many runs of sixteen octets.
+/// True only where each octet of the first `runs` runs of sixteen is clean (`are_clean`).
 fn are_runs_clean(octets: &[u8], runs: usize, least: u8) -> bool
     requires bound { least ≤ 33 }
     requires within { 16 * runs ≤ length octets.now }
@@ -45,7 +47,7 @@ fn are_runs_clean(octets: &[u8], runs: usize, least: u8) -> bool
     true
 }
 
-/// The same of eight octets to sixteen.
+/// True only where each of these eight to sixteen octets is clean (`are_clean`). Some may be looked at twice.
 fn are_some_clean(octets: &[u8], least: u8) -> bool
     requires bound { least ≤ 33 }
     requires many { 8 ≤ length octets.now }
@@ -58,7 +60,7 @@ fn are_some_clean(octets: &[u8], least: u8) -> bool
     are_eight_clean(octets, 0, least)
 }
 
-/// The same of the sixteen octets from here on.
+/// True only where each of the sixteen octets from this place on is clean (`are_clean`).
 #[inline(always)]
 fn are_sixteen_clean(octets: &[u8], from: usize, least: u8) -> bool
     requires bound { least ≤ 33 }
@@ -78,7 +80,7 @@ fn are_sixteen_clean(octets: &[u8], from: usize, least: u8) -> bool
     lanes.simd_eq(u8x16::splat(b'\\')).to_bitmask() == 0
 }
 
-/// The same of the eight octets from here on.
+/// True only where each of the eight octets from this place on is clean (`are_clean`).
 #[inline(always)]
 fn are_eight_clean(octets: &[u8], from: usize, least: u8) -> bool
     requires bound { least ≤ 33 }
@@ -98,7 +100,7 @@ fn are_eight_clean(octets: &[u8], from: usize, least: u8) -> bool
     lanes.simd_eq(u8x8::splat(b'\\')).to_bitmask() == 0
 }
 
-/// The same of a few octets, one by one.
+/// True only where each octet is clean (`are_clean`), looked at one by one.
 fn are_few_clean(octets: &[u8], least: u8) -> bool
     ensures { result ≡ true → CleanBetween least octets.now 0 (length octets.now) }
 {

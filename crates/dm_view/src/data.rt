@@ -15,7 +15,7 @@ ghost use Rattle.dm_view.specs.View.{listed_text, value_view, flaw_words, data_v
 
 use crate::clean::are_clean;
 use crate::described_data::ipv6_octets;
-use crate::words::{
+use crate::texts_and_numbers::{
     put_number, put_octets, put_octets_name, put_quoted, put_signed, put_unsigned,
     put_words_and_octets,
 };
@@ -152,7 +152,7 @@ fn put_flaw(text: &mut String, fault: ValueFault, octets: &[u8]) -> Result<(), A
     put_words_and_octets(text, " ", octets)
 }
 
-/// Appends clean data between these words.
+/// Appends octets that are UTF-8, as they are, between `front` and `back`.
 fn put_clean_data(
     text: &mut String,
     front: &str,
@@ -169,7 +169,7 @@ fn put_clean_data(
     text.push_str(back)
 }
 
-/// Appends the data of an AVP that is a text: where it is clean, it isn't judged.
+/// Appends the data of a UTF8String: its value, or what is wrong with it and its octets. Clean octets aren't checked.
 fn put_text_data(text: &mut String, def: &AvpDef, octets: &[u8]) -> Result<(), AllocError>
     requires { def.now.kind ≡ AvpType.UTF8String }
     ensures { OnOk result (string_bytes text.new ≡ string_bytes text.old ++ data_view def.now octets.now) }
@@ -180,7 +180,8 @@ fn put_text_data(text: &mut String, def: &AvpDef, octets: &[u8]) -> Result<(), A
     put_judged_data(text, def, octets)
 }
 
-/// Appends the data of an AVP that is an identity: where it is clean, it isn't judged.
+/// Appends the data of a DiameterIdentity: its value, or what is wrong with it and its octets. Clean octets aren't
+/// checked.
 fn put_identity_data(text: &mut String, def: &AvpDef, octets: &[u8]) -> Result<(), AllocError>
     requires { def.now.kind ≡ AvpType.DiameterIdentity }
     ensures { OnOk result (string_bytes text.new ≡ string_bytes text.old ++ data_view def.now octets.now) }
@@ -194,7 +195,7 @@ fn put_identity_data(text: &mut String, def: &AvpDef, octets: &[u8]) -> Result<(
     put_judged_data(text, def, octets)
 }
 
-/// Appends the data of an AVP of this definition, as it is judged.
+/// Appends the data of an AVP of this definition: its value, or what is wrong with it and its octets.
 #[tactic(auto, unfolding(crate::specs::View::data_view))]
 fn put_judged_data(text: &mut String, def: &AvpDef, octets: &[u8]) -> Result<(), AllocError>
     requires { def.now.kind ≢ AvpType.Grouped }

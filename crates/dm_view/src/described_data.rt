@@ -9,7 +9,7 @@ ghost use Rattle.dm_view.specs.Words.{quoted};
 ghost use Rattle.dm_view.specs.View.{listed_text, value_view, data_view};
 
 use crate::data::flaw_words;
-use crate::words::Quoted;
+use crate::texts_and_numbers::Quoted;
 use byteorder::{BigEndian, ByteOrder};
 use dm_dict::{AvpDef, AvpType, Ip, unix_seconds, utc_date, value_fault};
 use dm_text::Hexadecimal;

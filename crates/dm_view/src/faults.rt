@@ -16,7 +16,7 @@ use crate::avps::{put_avp_front, put_avp_name};
 use crate::header::put_header;
 use crate::reasons::{Reason, ReasonBehind};
 use crate::results::result_name;
-use crate::words::put_number;
+use crate::texts_and_numbers::put_number;
 use dm_dict::codes::MISSING_AVP;
 use dm_dict::{AvpDef, Dictionary, Failed, LocatedFault, NoMemory, Step};
 use dm_text::put_decimal;
@@ -48,7 +48,7 @@ fn put_path(text: &mut String, dictionary: &Dictionary, path: &[Step]) -> Result
     Ok(())
 }
 
-/// The failed AVP without its data.
+/// The failed AVP without its data; None where the fault names no AVP.
 pub(crate) fn failed_without_data(failed: Failed<'_>) -> Option<AvpRef<'_>>
     ensures { option_map avp_of result ≡ option_map without_data (failed_of failed.entry) }
 {
@@ -65,7 +65,7 @@ pub(crate) fn failed_without_data(failed: Failed<'_>) -> Option<AvpRef<'_>>
     }
 }
 
-/// How long the data of the failed AVP is.
+/// How many octets the data of the failed AVP has; 0 where the fault names no AVP.
 pub(crate) fn failed_length(failed: Failed<'_>) -> usize
     ensures { result ≡ failed_length (failed_of failed.entry) }
 {
@@ -160,7 +160,7 @@ fn put_faults(
     Ok(())
 }
 
-/// Appends whether there are no faults, and tells it.
+/// Appends `good ` and returns true where there are no faults; else `bad ` and false.
 fn put_verdict(text: &mut String, faults: &[LocatedFault<'_>]) -> Result<bool, AllocError>
     ensures shown { OnOk result (string_bytes text.new
         ≡ string_bytes text.old ++ verdict_words (map told_at faults.now)) }
@@ -178,7 +178,7 @@ fn put_verdict(text: &mut String, faults: &[LocatedFault<'_>]) -> Result<bool, A
     }
 }
 
-/// Appends the text for a message of these faults, and tells whether there are none.
+/// Appends `good` or `bad`, the header of a message and a line for each of its faults. True where there are none.
 fn put_check_of_faults(
     text: &mut String,
     dictionary: &Dictionary,

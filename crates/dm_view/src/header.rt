@@ -4,7 +4,7 @@ ghost use Rattle.std.specs.Option.{option_copied};
 ghost use Rattle.std.specs.String.{string_bytes};
 ghost use Rattle.dm_view.specs.View.{command_name, command_of, flag_words, both_text, header_view};
 
-use crate::words::{put_number, put_octets_name};
+use crate::texts_and_numbers::{put_number, put_octets_name};
 use dm_dict::{CommandDef, Dictionary};
 use dm_text::put_hexadecimal;
 use dm_wire::Header;

@@ -12,8 +12,8 @@ ghost use Rattle.dm_view.specs.JsonView.{avp_words, front_members, avp_json, beh
 
 use crate::clean::are_clean;
 use crate::json_data::put_data;
+use crate::json_octets_and_texts::{put_flaw, put_octets, put_text, put_vendor};
 use crate::json_text::JsonText;
-use crate::json_words::{put_flaw, put_octets, put_text, put_vendor};
 use dm_dict::{AvpDef, AvpType, Dictionary};
 use dm_wire::{AvpRef, AvpsRef, spells_avps};
 use std::alloc::AllocError;
@@ -30,7 +30,7 @@ fn put_defined_name(json: &mut JsonText, name: &[u8]) -> Result<(), AllocError>
     put_text(json, name)
 }
 
-/// Appends the name of an AVP, where it has a definition, as a member.
+/// Appends the name of an AVP as a member, `null` where it has no definition.
 fn put_name_member(json: &mut JsonText, def: Option<&AvpDef>) -> Result<(), AllocError>
     ensures { OnOk result (json.new ≡ json.old ++ key (codes "name")
         ∷ json_tokens (name_json (option_map (λ d. d.name) (option_copied def.entry)))) }

@@ -10,15 +10,15 @@ ghost use Rattle.dm_view.specs.JsonView.{listed_json, time_json, value_json, dat
 
 use crate::clean::are_clean;
 use crate::data::flaw_words;
+use crate::json_octets_and_texts::{put_flaw, put_name, put_octets, put_text};
 use crate::json_text::JsonText;
-use crate::json_words::{put_flaw, put_name, put_octets, put_text};
 use byteorder::{BigEndian, ByteOrder};
 use dm_dict::{AvpDef, AvpType, unix_seconds, value_fault};
 use dm_wire::Octets;
 use std::alloc::AllocError;
 use std::str;
 
-/// Appends a value of an Enumerated: its number, and its name where it is listed.
+/// Appends a value of an Enumerated: its number, and its name, `null` where it isn't listed.
 fn put_json_enumerated(
     json: &mut JsonText,
     name: Option<&Octets>,
@@ -46,7 +46,7 @@ fn put_time(json: &mut JsonText, time: u32) -> Result<(), AllocError>
     json.end_object()
 }
 
-/// Appends a text.
+/// Appends the value of a UTF8String.
 fn put_json_text(json: &mut JsonText, octets: &[u8]) -> Result<(), AllocError>
     requires { flaw AvpType.UTF8String octets.now ≡ None }
     ensures { OnOk result (json.new ≡ json.old ++ json_tokens (string octets.now)) }
@@ -90,7 +90,7 @@ fn put_json_value(json: &mut JsonText, def: &AvpDef, octets: &[u8]) -> Result<()
     }
 }
 
-/// Appends the data of an AVP that is a text: where it is clean, it isn't judged.
+/// Appends the data of a UTF8String: its value, or what is wrong with it and its octets. Clean octets aren't checked.
 fn put_text_data(json: &mut JsonText, def: &AvpDef, octets: &[u8]) -> Result<(), AllocError>
     requires { def.now.kind ≡ AvpType.UTF8String }
     ensures { OnOk result (json.new ≡ json.old ++ json_tokens (data_json def.now octets.now)) }
@@ -101,7 +101,8 @@ fn put_text_data(json: &mut JsonText, def: &AvpDef, octets: &[u8]) -> Result<(),
     put_json_judged_data(json, def, octets)
 }
 
-/// Appends the data of an AVP that is an identity: where it is clean, it isn't judged.
+/// Appends the data of a DiameterIdentity: its value, or what is wrong with it and its octets. Clean octets aren't
+/// checked.
 fn put_identity_data(json: &mut JsonText, def: &AvpDef, octets: &[u8]) -> Result<(), AllocError>
     requires { def.now.kind ≡ AvpType.DiameterIdentity }
     ensures { OnOk result (json.new ≡ json.old ++ json_tokens (data_json def.now octets.now)) }
@@ -115,7 +116,7 @@ fn put_identity_data(json: &mut JsonText, def: &AvpDef, octets: &[u8]) -> Result
     put_json_judged_data(json, def, octets)
 }
 
-/// Appends the data of an AVP of this definition, as it is judged.
+/// Appends the data of an AVP of this definition: its value, or what is wrong with it and its octets.
 #[tactic(auto, unfolding(crate::specs::JsonView::data_json))]
 fn put_json_judged_data(json: &mut JsonText, def: &AvpDef, octets: &[u8]) -> Result<(), AllocError>
     requires { def.now.kind ≢ AvpType.Grouped }

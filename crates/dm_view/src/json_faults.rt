@@ -63,7 +63,7 @@ fn put_failed_avp(
     json.end_object()
 }
 
-/// Appends a failed AVP, where there is one, and the end of the fault.
+/// Appends the failed AVP, nothing where there is none, and the end of the fault.
 fn put_json_failed_if_any(
     alloc: Global,
     json: &mut JsonText,
@@ -129,7 +129,7 @@ fn put_faults(
     json.end_array()
 }
 
-/// Appends whether a message is good.
+/// Appends the member `verdict`: `good` or `bad`.
 pub fn put_json_verdict(json: &mut JsonText, good: bool) -> Result<(), AllocError>
     ensures { OnOk result (json.new ≡ json.old ++ key (codes "verdict") ∷ json_tokens (verdict_json good)) }
 {

@@ -5,13 +5,13 @@ ghost use Rattle.json.specs.Tree.{json_tokens, members_tokens};
 ghost use Rattle.dm_view.specs.JsonView.{command_json, kind_words, header_words, identifiers, header_json};
 ghost use Rattle.dm_view.specs.View.{command_of};
 
+use crate::json_octets_and_texts::{put_name, put_word_if_meant};
 use crate::json_text::JsonText;
-use crate::json_words::{put_name, put_word_if_meant};
 use dm_dict::{CommandDef, Dictionary};
 use dm_wire::Header;
 use std::alloc::AllocError;
 
-/// Appends the name of a command, where it has a definition.
+/// Appends the name of a command, `null` where it has no definition.
 fn put_json_command_name(json: &mut JsonText, def: Option<&CommandDef>) -> Result<(), AllocError>
     ensures { OnOk result (json.new ≡ json.old ++ json_tokens (command_json (option_copied def.entry))) }
 {

@@ -3,8 +3,8 @@ ghost use Rattle.std.specs.Prelude.{◌≡◌, ◌++◌, OnOk};
 ghost use Rattle.json.specs.Tree.{json_tokens, items_tokens};
 ghost use Rattle.dm_view.specs.JsonCheck.{step_json, path_items};
 
+use crate::json_octets_and_texts::{put_name, put_vendor};
 use crate::json_text::JsonText;
-use crate::json_words::{put_name, put_vendor};
 use dm_dict::{Dictionary, Step};
 use std::alloc::AllocError;
 

@@ -56,7 +56,7 @@ fn string_with_room(alloc: Global) -> String
     }
 }
 
-/// Whether a comma stands before what comes.
+/// Whether a comma has to stand before the next piece: it begins a value or a member, and a value ended before it.
 #[inline(always)]
 fn wants_comma(after_value: bool, begun: bool) -> bool
     ensures { result ≡ (after_value && begun) }
@@ -197,7 +197,7 @@ impl Printed {
         self.put_tokens(false, "]", true)
     }
 
-    /// The name of a member, whose value follows.
+    /// Appends the name of a member, whose value follows.
     pub(crate) fn key(&mut self, alloc: Global, name: &str) -> Result<(), AllocError>
         ensures { OnOk result (self.new ≡ self.old ++ key name.now ∷ []) }
     {
@@ -212,7 +212,7 @@ impl Printed {
         done
     }
 
-    /// A text that needs no escapes.
+    /// Appends a text that needs no escapes.
     pub(crate) fn clean_string(&mut self, text: &str) -> Result<(), AllocError>
         requires { escape text.now ≡ text.now }
         ensures { OnOk result (self.new ≡ self.old ++ string text.now ∷ []) }
@@ -220,7 +220,7 @@ impl Printed {
         self.put_tokens_in_pieces(true, "\"", text, "\"", true)
     }
 
-    /// A text.
+    /// Appends a text, with its escapes.
     pub(crate) fn string(&mut self, alloc: Global, text: &str) -> Result<(), AllocError>
         ensures { OnOk result (self.new ≡ self.old ++ string text.now ∷ []) }
     {
@@ -235,7 +235,7 @@ impl Printed {
         done
     }
 
-    /// A number from 0 on.
+    /// Appends a number from 0 on.
     pub(crate) fn number(&mut self, value: u64) -> Result<(), AllocError>
         ensures { OnOk result (self.new ≡ self.old ++ number (decimal value) ∷ []) }
     {
@@ -243,7 +243,7 @@ impl Printed {
         self.put_tokens(true, digits.format(value), true)
     }
 
-    /// A number.
+    /// Appends a number, which may be below 0.
     pub(crate) fn signed(&mut self, value: i64) -> Result<(), AllocError>
         ensures { OnOk result (self.new ≡ self.old ++ number (signed_decimal value) ∷ []) }
     {
@@ -251,7 +251,7 @@ impl Printed {
         self.put_tokens(true, digits.format(value), true)
     }
 
-    /// A member that is a number from 0 on, behind its name between `"` and a colon.
+    /// Appends a member that is a number from 0 on. `name` is its key as it is printed, as `"code":`.
     pub(crate) fn number_member(&mut self, name: &str, value: u32) -> Result<(), AllocError>
         requires { (k : List ℕ) × (name.now ≡ token_text (key k)) }
         ensures { (k : List ℕ) → name.now ≡ token_text (key k)
@@ -261,7 +261,7 @@ impl Printed {
         self.put_tokens_in_pieces(true, name, digits.format(u64::from(value)), "", true)
     }
 
-    /// Nothing.
+    /// Appends `null`.
     pub(crate) fn null(&mut self) -> Result<(), AllocError>
         ensures { OnOk result (self.new ≡ self.old ++ null ∷ []) }
     {

@@ -97,21 +97,21 @@ impl JsonText {
         self.printed.end_array()
     }
 
-    /// The name of a member, whose value follows.
+    /// Appends the name of a member, whose value follows.
     pub fn key(&mut self, name: &str) -> Result<(), AllocError>
         ensures { OnOk result (self.new ≡ self.old ++ key name.now ∷ []) }
     {
         self.printed.key(self.alloc, name)
     }
 
-    /// A text.
+    /// Appends a text, with its escapes.
     pub fn string(&mut self, text: &str) -> Result<(), AllocError>
         ensures { OnOk result (self.new ≡ self.old ++ string text.now ∷ []) }
     {
         self.printed.string(self.alloc, text)
     }
 
-    /// A text that needs no escapes.
+    /// Appends a text that needs no escapes.
     pub(crate) fn clean_string(&mut self, text: &str) -> Result<(), AllocError>
         requires { escape text.now ≡ text.now }
         ensures { OnOk result (self.new ≡ self.old ++ string text.now ∷ []) }
@@ -128,7 +128,7 @@ impl JsonText {
             .put_tokens_in_pieces(true, "\"name\":\"", name, "\"", true)
     }
 
-    /// A member that is a number from 0 on, behind its name between `"` and a colon.
+    /// Appends a member that is a number from 0 on. `name` is its key as it is printed, as `"code":`.
     pub(crate) fn number_behind_key(&mut self, name: &str, value: u32) -> Result<(), AllocError>
         requires { (k : List ℕ) × (name.now ≡ token_text (key k)) }
         ensures { (k : List ℕ) → name.now ≡ token_text (key k)
@@ -193,28 +193,28 @@ impl JsonText {
         self.printed.string(self.alloc, self.room.as_str())
     }
 
-    /// A number from 0 on.
+    /// Appends a number from 0 on.
     pub fn number(&mut self, value: u64) -> Result<(), AllocError>
         ensures { OnOk result (self.new ≡ self.old ++ number (decimal value) ∷ []) }
     {
         self.printed.number(value)
     }
 
-    /// A number.
+    /// Appends a number, which may be below 0.
     pub fn signed(&mut self, value: i64) -> Result<(), AllocError>
         ensures { OnOk result (self.new ≡ self.old ++ number (signed_decimal value) ∷ []) }
     {
         self.printed.signed(value)
     }
 
-    /// Nothing.
+    /// Appends `null`.
     pub fn null(&mut self) -> Result<(), AllocError>
         ensures { OnOk result (self.new ≡ self.old ++ null ∷ []) }
     {
         self.printed.null()
     }
 
-    /// A member that is a text.
+    /// Appends a member that is a text.
     pub fn text_member(&mut self, name: &str, text: &str) -> Result<(), AllocError>
         ensures { OnOk result (self.new ≡ self.old ++ key name.now ∷ string text.now ∷ []) }
     {
@@ -222,7 +222,7 @@ impl JsonText {
         self.string(text)
     }
 
-    /// A member that is a number from 0 on.
+    /// Appends a member that is a number from 0 on.
     pub fn number_member(&mut self, name: &str, value: u32) -> Result<(), AllocError>
         ensures { OnOk result (self.new ≡ self.old ++ key name.now ∷ number (decimal value) ∷ []) }
     {

@@ -2,11 +2,11 @@
 //! and 7).
 #![tactic(auto)]
 
+mod avp_description;
 mod avps;
 mod clean;
 mod code_and_flags;
 mod data;
-mod described;
 mod described_data;
 mod faults;
 mod header;
@@ -15,16 +15,16 @@ mod json_data;
 mod json_faults;
 mod json_header;
 mod json_message;
+mod json_octets_and_texts;
 mod json_path;
 mod json_printed;
 mod json_text;
-mod json_words;
 mod message;
 mod reasons;
 mod results;
-mod words;
+mod texts_and_numbers;
 
-pub use described::{AvpDescription, describe};
+pub use avp_description::{AvpDescription, describe};
 pub use faults::put_check;
 pub use header::put_header;
 pub use json_faults::{put_json_check, put_json_verdict};

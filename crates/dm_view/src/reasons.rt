@@ -9,7 +9,7 @@ use dm_dict::codes::{
 use dm_dict::{AvpType, least_len};
 use std::fmt;
 
-/// What the least length of a type is to its data.
+/// What stands before the least length of a type: `, at least ` where its data may be longer, else `, not `.
 fn bound_words(kind: AvpType) -> &'static str
     ensures { result.now ≡ bound_words kind }
 {

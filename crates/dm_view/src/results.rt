@@ -12,7 +12,7 @@ use std::fmt;
 #[derive(Clone, Copy)]
 pub struct ResultName(pub u32);
 
-/// The name of a Result-Code of a fault of AVPs.
+/// The name of a Result-Code of a fault of AVPs; `Result-Code` for any other.
 fn avp_result_name(code: u32) -> &'static str
     ensures { result.now ≡ avp_result code }
 {
@@ -27,7 +27,7 @@ fn avp_result_name(code: u32) -> &'static str
     }
 }
 
-/// The name of a Result-Code of a fault.
+/// The name of a Result-Code of a fault; `Result-Code` for any other.
 pub(crate) fn result_name(code: u32) -> &'static str
     ensures { result.now ≡ result_name code }
 {

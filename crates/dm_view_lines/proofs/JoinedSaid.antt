@@ -2,7 +2,7 @@
 use Rattle.std.proofs.Common.{◌≡◌, ℕ, ◌+◌, List, [], ◌∷◌, ◌++◌, length, map, arith, append_assoc, ap, sym, ◌∙◌, refl, subst}
 use Rattle.std.specs.Str.Lines.{lines}
 use Rattle.dm_tables.specs.Definitions.{Definitions}
-use Rattle.dm_view_lines.specs.declared.said.Task.{Task}
+use Rattle.dm_view_lines.specs.declared.message_reports.Task.{Task}
 use Rattle.dm_view_lines.specs.declared.tally.Tally.{Tally}
 use Rattle.dm_view_lines.specs.Counts.{tally_of, tallied}
 use Rattle.dm_view_lines.specs.Digits.{octets_of_line}

@@ -23,8 +23,8 @@ use Rattle.dm_wire.specs.Printed.{data_text}
 use Rattle.std.specs.Fmt.{decimal}
 use Rattle.std.specs.Option.{option_map}
 use Rattle.dm_view_lines.specs.Reasons.{refusal_sentence}
-use Rattle.dm_view_lines.specs.declared.said.Task.{Task}
-use Rattle.dm_view_lines.specs.declared.said.Task.TheVariants.{Show, Check, ShowJson, CheckJson}
+use Rattle.dm_view_lines.specs.declared.message_reports.Task.{Task}
+use Rattle.dm_view_lines.specs.declared.message_reports.Task.TheVariants.{Show, Check, ShowJson, CheckJson}
 use Rattle.dm_view_lines.specs.declared.tally.Tally.{Tally}
 use Rattle.dm_view_lines.specs.declared.line_speaker.LineSpeaker.{LineSpeaker}
 use Rattle.dm_view_lines.specs.Colours.{styled, line_coloured}

@@ -3,7 +3,7 @@ use Rattle.std.proofs.Common.{◌≡◌, ◌+◌, ◌++◌, ◌∷◌, [], inl, 
 use Rattle.std.specs.Str.Lines.{lines}
 use Rattle.dm_wire.specs.OneAnswer.{OneMessage, OneRefusal, NoMessageRefused}
 use Rattle.dm_tables.specs.Definitions.{Definitions}
-use Rattle.dm_view_lines.specs.declared.said.Task.{Task}
+use Rattle.dm_view_lines.specs.declared.message_reports.Task.{Task}
 use Rattle.dm_view_lines.specs.declared.tally.Tally.{Tally}
 use Rattle.dm_view_lines.specs.Colours.{SaysStyled, styled}
 use Rattle.dm_view_lines.specs.Counts.{tallied, tally_of}

@@ -7,7 +7,7 @@ use Rattle.dm_framer.specs.Frames.{HasFault, IsFrame, IsPartial}
 use Rattle.dm_framer.specs.Laws.{Cuts, FrameOrFault}
 use Rattle.dm_wire.specs.Codes.{max_message_len}
 use Rattle.dm_tables.specs.Definitions.{Definitions}
-use Rattle.dm_view_lines.specs.declared.said.Task.{Task}
+use Rattle.dm_view_lines.specs.declared.message_reports.Task.{Task}
 use Rattle.dm_view_lines.specs.declared.tally.Tally.{Tally}
 use Rattle.dm_view_lines.specs.Counts.{no_lines, tally_of, tallied}
 use Rattle.dm_view_lines.specs.Frames.{SaysFrames}

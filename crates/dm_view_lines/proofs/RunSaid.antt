@@ -10,9 +10,9 @@ use Rattle.dm_view_lines.specs.declared.put_fault.PutFault.{PutFault}
 use Rattle.dm_view_lines.specs.declared.put_fault.PutFault.TheVariants as put
 use Rattle.dm_view_lines.specs.declared.run_fault.RunFault.{RunFault}
 use Rattle.dm_view_lines.specs.declared.run_fault.RunFault.TheVariants.{Memory, Read, TooLong, Write}
-use Rattle.dm_view_lines.specs.declared.said.Task.{Task}
+use Rattle.dm_view_lines.specs.declared.message_reports.Task.{Task}
 use Rattle.dm_view_lines.specs.declared.tally.Tally.{Tally}
-use Rattle.dm_view_lines.specs.declared.turns.TheConstants.{LINE_LIMIT as line_limit}
+use Rattle.dm_view_lines.specs.declared.gathered_lines.TheConstants.{LINE_LIMIT as line_limit}
 use Rattle.dm_view_lines.specs.Colours.{SaysStyled, styled}
 use Rattle.dm_view_lines.specs.Counts.{no_lines, tallied}
 use Rattle.dm_view_lines.specs.Ending.{IsTooLong, WritesUpTo, StopsBehind, WritesSome, EndsRun, EndsLines, SaysFront, FailsAtEnd}

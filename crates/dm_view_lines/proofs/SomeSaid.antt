@@ -10,7 +10,7 @@ use Rattle.dm_wire.specs.OneAnswer.{MessageOrFault}
 use Rattle.dm_wire.specs.Refusal.{Refuses}
 use Rattle.dm_wire.specs.Spelling.{SpellsMessage}
 use Rattle.dm_tables.specs.Definitions.{Definitions}
-use Rattle.dm_view_lines.specs.declared.said.Task.{Task}
+use Rattle.dm_view_lines.specs.declared.message_reports.Task.{Task}
 use Rattle.dm_view_lines.specs.declared.tally.Tally.{Tally}
 use Rattle.dm_view_lines.specs.Colours.{SaysStyled, styled}
 use Rattle.dm_view_lines.specs.Counts.{no_lines, tallied, tally_of}

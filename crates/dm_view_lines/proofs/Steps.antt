@@ -4,7 +4,7 @@ use Rattle.std.proofs.lemmas.Bool.{eqb-true}
 use Rattle.std.specs.Str.Lines.{lines}
 use Rattle.dm_text.specs.Joined.{LinesAreFew}
 use Rattle.dm_tables.specs.Definitions.{Definitions}
-use Rattle.dm_view_lines.specs.declared.said.Task.{Task}
+use Rattle.dm_view_lines.specs.declared.message_reports.Task.{Task}
 use Rattle.dm_view_lines.specs.declared.tally.Tally.{Tally}
 use Rattle.dm_view_lines.specs.Counts.{no_lines, tally_of, tallied}
 use Rattle.dm_view_lines.specs.Said.{SaysOctets}

@@ -7,7 +7,7 @@ use Rattle.std.proofs.KnownBytes.{Appends-trans}
 use Rattle.dm_framer.specs.Laws.{Cuts, FaultStays, WholeFrames}
 use Rattle.dm_tables.specs.Definitions.{Definitions}
 use Rattle.dm_view_lines.specs.declared.run_fault.RunFault.{RunFault}
-use Rattle.dm_view_lines.specs.declared.said.Task.{Task}
+use Rattle.dm_view_lines.specs.declared.message_reports.Task.{Task}
 use Rattle.dm_view_lines.specs.declared.stop.Stop.{Stop}
 use Rattle.dm_view_lines.specs.declared.stream_speaker.StreamSpeaker.{StreamSpeaker}
 use Rattle.dm_view_lines.specs.declared.tally.Tally.{Tally}

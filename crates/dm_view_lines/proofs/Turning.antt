@@ -4,7 +4,7 @@ use Rattle.std.specs.Str.Lines.{lines}
 use Rattle.std.proofs.KnownBytes.{Appends-nil, Appends-trans}
 use Rattle.dm_view_lines.specs.declared.put_fault.PutFault.{PutFault}
 use Rattle.dm_view_lines.specs.declared.put_fault.PutFault.TheVariants.{Memory, TooLong, Write}
-use Rattle.dm_view_lines.specs.declared.turns.TheConstants.{LINE_LIMIT as line_limit}
+use Rattle.dm_view_lines.specs.declared.gathered_lines.TheConstants.{LINE_LIMIT as line_limit}
 use Rattle.dm_view_lines.specs.LineEnds.{ended}
 use Rattle.dm_view_lines.specs.Turns.{SaysInTurn, Gathers, Leaves, WritesFront, FirstIsLong, CountsLong, IsOfOutput, text_left, TellsLines, StopsInTurn}
 use Rattle.dm_view_lines.proofs.Seams.{held-long}

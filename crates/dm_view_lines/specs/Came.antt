@@ -1,7 +1,7 @@
 -- What a read came to.
 use Rattle.std.specs.Prelude.{Bool, true, false}
-use Rattle.dm_view_lines.specs.declared.reading.Came.{Came}
-use Rattle.dm_view_lines.specs.declared.reading.Came.TheVariants.{More, End, Enough, Failed}
+use Rattle.dm_view_lines.specs.declared.buffered_lines.Came.{Came}
+use Rattle.dm_view_lines.specs.declared.buffered_lines.Came.TheVariants.{More, End, Enough, Failed}
 
 -- whether more may be said
 abbrev pub goes_further : Came → Bool

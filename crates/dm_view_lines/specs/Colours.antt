@@ -2,8 +2,8 @@
 use Rattle.std.specs.Prelude.{◌≡◌, ℕ, Bool, true, false, ◌==◌, List, [], ◌∷◌, ◌++◌, codes, flat_map, if◌then◌else◌}
 use Rattle.std.specs.Str.Lines.{lines}
 use Rattle.dm_tables.specs.Definitions.{Definitions}
-use Rattle.dm_view_lines.specs.declared.said.Task.{Task}
-use Rattle.dm_view_lines.specs.declared.said.Task.TheVariants.{Show, Check}
+use Rattle.dm_view_lines.specs.declared.message_reports.Task.{Task}
+use Rattle.dm_view_lines.specs.declared.message_reports.Task.TheVariants.{Show, Check}
 use Rattle.dm_view_lines.specs.Frames.{SaysStream}
 use Rattle.dm_view_lines.specs.Lines.{Says}
 

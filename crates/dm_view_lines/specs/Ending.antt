@@ -6,9 +6,9 @@ use Rattle.dm_framer.specs.declared.fault.FrameFault.{FrameFault}
 use Rattle.dm_tables.specs.Definitions.{Definitions}
 use Rattle.dm_view_lines.specs.declared.run_fault.RunFault.{RunFault}
 use Rattle.dm_view_lines.specs.declared.run_fault.RunFault.TheVariants.{Memory, Read, TooLong, Write}
-use Rattle.dm_view_lines.specs.declared.said.Task.{Task}
+use Rattle.dm_view_lines.specs.declared.message_reports.Task.{Task}
 use Rattle.dm_view_lines.specs.declared.tally.Tally.{Tally}
-use Rattle.dm_view_lines.specs.declared.turns.TheConstants.{LINE_LIMIT as line_limit}
+use Rattle.dm_view_lines.specs.declared.gathered_lines.TheConstants.{LINE_LIMIT as line_limit}
 use Rattle.dm_view_lines.specs.Colours.{styled, SaysStyled, SaysStreamStyled}
 use Rattle.dm_view_lines.specs.Frames.{SaysFrames, stream_of}
 use Rattle.dm_view_lines.specs.Lines.{SaysLines}

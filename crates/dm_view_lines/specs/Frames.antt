@@ -12,8 +12,8 @@ use Rattle.dm_wire.specs.declared.fault.WireFault.{WireFault}
 use Rattle.dm_wire.specs.declared.fault.WireFault.TheVariants.{Version, Length, TooLong, NoMemory}
 use Rattle.dm_tables.specs.Definitions.{Definitions}
 use Rattle.dm_view.specs.JsonWords.{number_json}
-use Rattle.dm_view_lines.specs.declared.said.Task.{Task}
-use Rattle.dm_view_lines.specs.declared.said.Task.TheVariants.{Show, Check, ShowJson, CheckJson}
+use Rattle.dm_view_lines.specs.declared.message_reports.Task.{Task}
+use Rattle.dm_view_lines.specs.declared.message_reports.Task.TheVariants.{Show, Check, ShowJson, CheckJson}
 use Rattle.dm_view_lines.specs.declared.stop.Stop.{Stop}
 use Rattle.dm_view_lines.specs.declared.stop.Stop.TheVariants.{Fault, Line, Part}
 use Rattle.dm_view_lines.specs.declared.tally.Tally.{Tally}

@@ -1,7 +1,7 @@
 -- What is said of an input is the input's own.
 use Rattle.std.specs.Prelude.{◌≡◌, ℕ, Bool, List}
 use Rattle.dm_tables.specs.Definitions.{Definitions}
-use Rattle.dm_view_lines.specs.declared.said.Task.{Task}
+use Rattle.dm_view_lines.specs.declared.message_reports.Task.{Task}
 use Rattle.dm_view_lines.specs.Colours.{SaysStyled}
 
 -- under one dictionary one text at most is said of an input, and it is either good or not

@@ -14,8 +14,8 @@ use Rattle.dm_view.specs.Check.{are_none, check_view}
 use Rattle.dm_view.specs.JsonCheck.{check_members}
 use Rattle.dm_view.specs.JsonView.{message_members}
 use Rattle.dm_view.specs.View.{command_of, header_view, message_view}
-use Rattle.dm_view_lines.specs.declared.said.Task.{Task}
-use Rattle.dm_view_lines.specs.declared.said.Task.TheVariants.{Show, Check, ShowJson, CheckJson}
+use Rattle.dm_view_lines.specs.declared.message_reports.Task.{Task}
+use Rattle.dm_view_lines.specs.declared.message_reports.Task.TheVariants.{Show, Check, ShowJson, CheckJson}
 use Rattle.dm_view_lines.specs.Before.{avps_before}
 use Rattle.dm_view_lines.specs.Fronts.{SaidFront, by_number}
 use Rattle.dm_view_lines.specs.Json.{fronted_json, numbered_json, error_member, bad_members}

@@ -5,7 +5,7 @@ use Rattle.dm_framer.specs.declared.fault.FrameFault.{FrameFault}
 use Rattle.dm_wire.specs.Codes.{max_message_len}
 use Rattle.dm_tables.specs.Definitions.{Definitions}
 use Rattle.dm_view_lines.specs.declared.line_speaker.LineSpeaker.{LineSpeaker}
-use Rattle.dm_view_lines.specs.declared.said.Task.{Task}
+use Rattle.dm_view_lines.specs.declared.message_reports.Task.{Task}
 use Rattle.dm_view_lines.specs.declared.stop.Stop.{Stop}
 use Rattle.dm_view_lines.specs.declared.stop.Stop.TheVariants.{Fault, Line}
 use Rattle.dm_view_lines.specs.declared.stream_speaker.StreamSpeaker.{StreamSpeaker}

@@ -4,7 +4,7 @@ use Rattle.std.specs.Prelude.{All, List, [], ◌∷◌, ◌++◌, length}
 use Rattle.std.specs.Io.KnownBytes.{Appends, Keeps}
 use Rattle.dm_view_lines.specs.declared.put_fault.PutFault.{PutFault}
 use Rattle.dm_view_lines.specs.declared.put_fault.PutFault.TheVariants.{Memory, TooLong, Write}
-use Rattle.dm_view_lines.specs.declared.turns.TheConstants.{LINE_LIMIT as line_limit}
+use Rattle.dm_view_lines.specs.declared.gathered_lines.TheConstants.{LINE_LIMIT as line_limit}
 
 -- lines behind so many others, each said in turn and in this style; none has too many octets
 abbrev pub SaysInTurn : {S : Type 0} → (List ℕ → List ℕ) → (S → ℕ → List ℕ → S → List ℕ → Type 0) → ℕ → S

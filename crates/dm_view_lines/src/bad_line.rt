@@ -5,7 +5,7 @@ ghost use Rattle.dm_view_lines.specs.Said.{bad_said, numbered};
 
 use crate::front::Front;
 use crate::json_parts::put_error_line;
-use crate::said::Task;
+use crate::message_reports::Task;
 use std::alloc::{AllocError, Global};
 
 /// Appends a line of words behind their number.

@@ -2,7 +2,7 @@
 ghost use Rattle.std.specs.Prelude.{◌≡◌, ◌++◌, true, IfOk, OnOk};
 ghost use Rattle.dm_view_lines.specs.Colours.{further_in, begun, line_coloured, in_colours, styled};
 
-use crate::said::Task;
+use crate::message_reports::Task;
 use dm_text::Lines;
 use std::alloc::{AllocError, Global};
 
@@ -37,7 +37,7 @@ fn push_coloured_line(coloured: &mut Vec<u8>, task: Task, line: &[u8]) -> Result
     Ok(())
 }
 
-/// What makes a line bold or red.
+/// The escape sequence that makes a line bold or red; nothing for an empty line.
 fn line_colour(task: Task, line: &[u8]) -> &'static [u8]
     ensures { result.now ≡ begun task line.now }
 {
@@ -53,7 +53,7 @@ fn line_colour(task: Task, line: &[u8]) -> &'static [u8]
     }
 }
 
-/// What makes a line that stands further in red, where it is a fault.
+/// The escape sequence for an indented line: red under `Task::Check`, where it is a fault; else nothing.
 fn indented_line_colour(task: Task) -> &'static [u8]
     ensures { result.now ≡ further_in task }
 {

@@ -32,7 +32,7 @@ pub fn read_line(
     read_hex_words(alloc, line, digits)
 }
 
-/// The octets that the words of a line stand for.
+/// The octets that the words of a line stand for. None where a digit is bad or their number is odd.
 fn read_hex_words(
     alloc: Global,
     line: &[u8],
@@ -86,8 +86,8 @@ fn first_word(words: &[u8]) -> (&[u8], &[u8])
     }
 }
 
-/// The first word, as first_word tells it. Words of two or four digits are the most where there are several, so a few
-/// octets are looked at one by one before the others are searched.
+/// The first word, and what stands behind it and one space, tab or `:`. Where there are several words most have two or
+/// four digits, so a few octets are looked at one by one before the others are searched.
 fn next_word(words: &[u8]) -> (&[u8], &[u8])
     ensures digits { digits_of_words words.now ≡ without_prefix result.0.now ++ digits_of_words result.1.now }
     ensures less { 0 < length words.now → length result.1.now < length words.now }

@@ -9,11 +9,11 @@ ghost use Rattle.dm_view_lines.specs.Frames.{stop_text, stop_verdict};
 ghost use Rattle.dm_view_lines.specs.Lines.{counts_line};
 ghost use Rattle.dm_view_lines.specs.declared.tally.Tally.{Tally};
 
-use crate::gathered::{Style, push_styled, write_waiting};
 use crate::put_fault::PutFault;
 use crate::run_fault::RunFault;
 use crate::stop::{Stop, put_stop};
 use crate::tally::{Tally, put_last};
+use crate::waiting_text::{Style, push_styled, write_waiting};
 use std::alloc::Global;
 use std::io::Write;
 

@@ -27,7 +27,7 @@ pub fn read_file<R: Read + Drop>(reader: R, input: &mut Vec<u8>) -> io::Result<(
     Ok(())
 }
 
-/// Whether no line lacks its line feed.
+/// Whether the input is empty or ends with a line feed.
 pub(crate) fn is_ended(input: &[u8]) -> bool
     ensures { result ≡ is_ended input.now }
 {

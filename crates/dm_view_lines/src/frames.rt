@@ -7,7 +7,7 @@ ghost use Rattle.dm_view_lines.specs.Counts.{tallied, tally_of};
 ghost use Rattle.dm_view_lines.specs.Frames.{SaysFrames};
 ghost use Rattle.dm_view_lines.specs.Said.{SaysOctets};
 
-use crate::said::{Task, put_octets};
+use crate::message_reports::{Task, put_octets};
 use crate::tally::Tally;
 use dm_dict::{Dictionary, NoMemory};
 use dm_framer::laws::one_front;
@@ -23,7 +23,8 @@ pub(crate) struct Reading {
     pub fault: Option<FrameFault>,
 }
 
-/// Appends what is said of the octets of a message, which is numbered behind those that were counted.
+/// Appends what is said of the octets of a message, which is numbered behind those that were counted, and returns the
+/// counts with it.
 fn put_frame(
     alloc: Global,
     text: &mut String,
@@ -44,7 +45,8 @@ fn put_frame(
     Ok(tally.with(Some(good)))
 }
 
-/// Appends what is said of the whole messages that the framer holds, of so many octets, and takes them out of it.
+/// Appends what is said of the whole messages that the framer holds, takes them out of it, and returns how far the
+/// stream was read then.
 pub(crate) fn put_frames(
     alloc: Global,
     text: &mut String,

@@ -33,7 +33,7 @@ pub(crate) fn put_error_and_close(json: &mut JsonText, words: &str) -> Result<()
     json.end_object()
 }
 
-/// Appends that it is bad, where it is checked.
+/// Appends the verdict `bad` as a member where `is_checked` is true, else nothing.
 pub(crate) fn put_bad_if_checked(json: &mut JsonText, is_checked: bool) -> Result<(), AllocError>
     ensures { (more : Members) → OnOk result (json.new ++ members_tokens more
         ≡ json.old ++ members_tokens (if is_checked then bad_members more else more)) }

@@ -16,7 +16,7 @@ use dm_view::{JsonText, put_json_header, put_json_message};
 use dm_wire::WireFault;
 use std::alloc::{AllocError, Global};
 
-/// Appends the message up to a bad AVP, as members of an object that is open.
+/// Appends the message up to the bad AVP, as members of an object that is open; nothing where the fault is another.
 fn put_json_front_shown(
     json: &mut JsonText,
     dictionary: &Dictionary,
@@ -39,7 +39,8 @@ fn put_json_front_shown(
     }
 }
 
-/// Appends the header of a message with a bad AVP, as a member of an object that is open.
+/// Appends the header of a message with a bad AVP, as a member of an object that is open; nothing where the fault is
+/// another.
 fn put_json_front_checked(
     json: &mut JsonText,
     dictionary: &Dictionary,

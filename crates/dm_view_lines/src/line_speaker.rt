@@ -4,7 +4,7 @@ ghost use Rattle.dm_view_lines.specs.Counts.{no_lines};
 ghost use Rattle.dm_view_lines.specs.Speakers.{CountsOneLine};
 
 use crate::lines::put_line_report;
-use crate::said::Task;
+use crate::message_reports::Task;
 use crate::speaker::Speaker;
 use crate::tally::Tally;
 use dm_dict::{Dictionary, NoMemory};

@@ -7,7 +7,7 @@ ghost use Rattle.dm_view_lines.specs.Lines.{SaysLine, SaysLines, Says};
 
 use crate::bad_line::put_bad_line;
 use crate::digits::read_line;
-use crate::said::{Task, put_octets};
+use crate::message_reports::{Task, put_octets};
 use crate::tally::{Tally, put_last};
 use dm_dict::{Dictionary, NoMemory};
 use dm_text::Lines;

@@ -31,7 +31,7 @@ fn has_mark_or_prefix(line: &[u8]) -> bool
     }
 }
 
-/// Whether no octet of the line may end a word.
+/// True only where no octet of the line ends a word.
 fn has_no_word_end(line: &[u8]) -> bool
     requires { 16 ≤ length line.now }
     ensures { result ≡ true → NoneEnds line.now (length line.now) }
@@ -76,7 +76,7 @@ fn lower_marks(marks: u8x16, others: u8x16) -> u8x16
     marks.simd_min(others)
 }
 
-/// Whether no mark is low.
+/// True only where no mark is less than 128.
 #[inline(always)]
 fn are_marks_high(marks: u8x16) -> bool
     ensures { result ≡ true → low_marks marks ≡ 0 }

@@ -32,7 +32,7 @@ pub(crate) fn message_to_bad_avp(octets: &[u8], offset: usize) -> MessageRef<'_>
     }
 }
 
-/// Appends what is shown before the refusal of octets.
+/// Appends the message up to the bad AVP, in names and values, before the refusal; nothing where the fault is another.
 fn put_front_shown(
     text: &mut String,
     dictionary: &Dictionary,
@@ -57,7 +57,7 @@ fn put_front_shown(
     }
 }
 
-/// Appends what is said under a check before the refusal of octets.
+/// Appends `bad` and the header of a message with a bad AVP, before the refusal; nothing where the fault is another.
 fn put_front_checked(
     text: &mut String,
     dictionary: &Dictionary,

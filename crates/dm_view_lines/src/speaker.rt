@@ -2,9 +2,9 @@
 ghost use Rattle.std.specs.Prelude.{◌≡◌, ◌++◌, ℕ, Bool, true, List, IfOk};
 ghost use Rattle.std.specs.String.{string_bytes};
 ghost use Rattle.dm_tables.specs.Definitions.{Definitions};
-ghost use Rattle.dm_view_lines.specs.declared.said.Task.{Task};
+ghost use Rattle.dm_view_lines.specs.declared.message_reports.Task.{Task};
 
-use crate::said::Task;
+use crate::message_reports::Task;
 use dm_dict::{Dictionary, NoMemory};
 use std::alloc::Global;
 

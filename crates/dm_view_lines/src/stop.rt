@@ -7,8 +7,8 @@ ghost use Rattle.dm_view_lines.specs.Frames.{stop_verdict};
 
 use crate::bad_line::put_bad_line;
 use crate::json_parts::put_error_line;
+use crate::message_reports::Task;
 use crate::reasons::refusal_sentence;
-use crate::said::Task;
 use crate::tally::Tally;
 use dm_dict::NoMemory;
 use dm_framer::FrameFault;

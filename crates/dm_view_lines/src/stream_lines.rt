@@ -12,7 +12,7 @@ ghost use Rattle.dm_view_lines.specs.Frames.{stream_of, bad_line, stop_of, SaysF
 
 use crate::digits::read_line;
 use crate::frames::{Reading, put_frames};
-use crate::said::Task;
+use crate::message_reports::Task;
 use crate::stop::{Stop, put_stop};
 use crate::tally::{Tally, put_last};
 use dm_dict::{Dictionary, NoMemory};
@@ -59,8 +59,9 @@ fn put_stream_piece(
     )
 }
 
-/// Adds the octets of the line of this number, as `put_stream_piece` does, and tells where the stream stops at it:
-/// where it is no hexadecimal nothing is added.
+/// Adds the octets of the line of this number to those that the framer holds, and appends what is said of the messages
+/// that are whole then. Returns why the stream stops at this line, None where it goes on. Where the line is no
+/// hexadecimal nothing is added.
 pub(crate) fn put_stream_line(
     alloc: Global,
     text: &mut String,
@@ -147,7 +148,7 @@ fn put_stream(
     Ok((reading.tally, partial_stop(reading.held)))
 }
 
-/// That a stream ends in the middle of a message, where so many octets are left.
+/// That a stream ends in the middle of a message, of which so many octets are left; None where none are.
 pub(crate) fn partial_stop(held: usize) -> Option<Stop>
     ensures { (rest : List ℕ) → held ≡ length rest → result ≡ stop_of rest None None }
 {

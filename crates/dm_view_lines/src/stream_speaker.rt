@@ -5,7 +5,7 @@ ghost use Rattle.dm_view_lines.specs.Frames.{stop_of};
 ghost use Rattle.dm_view_lines.specs.Speakers.{ReadsLine, StreamGoes};
 
 use crate::frames::Reading;
-use crate::said::Task;
+use crate::message_reports::Task;
 use crate::speaker::Speaker;
 use crate::stop::Stop;
 use crate::stream_lines::{partial_stop, put_stream_line};

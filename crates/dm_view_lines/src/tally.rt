@@ -5,7 +5,7 @@ ghost use Rattle.dm_view_lines.specs.Counts.{tallied, tally_of, tally_line};
 ghost use Rattle.dm_view_lines.specs.Lines.{counts_line};
 
 use crate::json_parts::put_json_tally;
-use crate::said::Task;
+use crate::message_reports::Task;
 use dm_text::put_decimal;
 use std::alloc::{AllocError, Global};
 

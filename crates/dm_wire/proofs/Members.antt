@@ -12,7 +12,7 @@ use Rattle.dm_wire.proofs.Fronts.{spelled, header_above, octets_behind}
 use Rattle.dm_wire.proofs.Spellings.{front, same_made}
 use Rattle.dm_wire.specs.declared.borrowed.AvpRef.{AvpRef}
 use Rattle.dm_wire.specs.Borrowed.{avp_of}
-use Rattle.dm_wire.specs.declared.front.Extent.{Extent}
+use Rattle.dm_wire.specs.declared.avp_extent.Extent.{Extent}
 use Rattle.dm_wire.specs.Extents.{IsExtent}
 use Rattle.dm_wire.specs.Members.{vendor_at, length_at, padded, avp_at, begins_with_avp, members_within, members}
 

@@ -2,8 +2,8 @@
 use Rattle.std.specs.Prelude.{◌≡◌, ℕ, Some, List, length}
 use Rattle.dm_wire.specs.declared.avp.Avp.{Avp}
 use Rattle.dm_wire.specs.declared.borrowed.AvpRef.{AvpRef}
-use Rattle.dm_wire.specs.declared.list.AvpsRef.{AvpsRef}
-use Rattle.dm_wire.specs.declared.list.AvpsRef.TheVariants.{Held, Spelled}
+use Rattle.dm_wire.specs.declared.avps_ref.AvpsRef.{AvpsRef}
+use Rattle.dm_wire.specs.declared.avps_ref.AvpsRef.TheVariants.{Held, Spelled}
 use Rattle.dm_wire.specs.Members.{members}
 
 -- the AVP that a borrowed one stands for

@@ -1,6 +1,6 @@
 -- How far the AVP at the front of octets goes (RFC 6733, 4.1).
 use Rattle.std.specs.Prelude.{◌≡◌, ℕ, ◌≤◌, List, length}
-use Rattle.dm_wire.specs.declared.front.Extent.{Extent}
+use Rattle.dm_wire.specs.declared.avp_extent.Extent.{Extent}
 use Rattle.dm_wire.specs.Spelling.{avp_header_len}
 use Rattle.dm_wire.specs.Members.{vendor_at, length_at, padded}
 

@@ -6,7 +6,7 @@ ghost use Rattle.dm_wire.specs.declared.fault.WireFault.{WireFault};
 ghost use Rattle.dm_wire.specs.Spelling.{SpellsList, SpellsMessage};
 ghost use Rattle.dm_wire.specs.Refusal.{IsTooShort, IsOtherVersion, IsOtherLength, IsBadAt, Refuses};
 
-use crate::front::{copy_first_avp, first_avp_extent};
+use crate::avp_extent::{copy_first_avp, first_avp_extent};
 use crate::message_ref::HEADER_LEN;
 use crate::read::read_header;
 use crate::walk::check_avps;

@@ -4,8 +4,8 @@ ghost use Rattle.dm_wire.specs.Spelling.{SpellsList, SpellsMessage};
 ghost use Rattle.dm_wire.specs.Canonical.{canonical_list, canonical_header, canonical_message, message_size};
 ghost use Rattle.dm_wire.specs.Limits.{IsLongList, IsLongMessage};
 
+use crate::avp_and_header_octets::{header_octets, push_avp_list, write_message};
 use crate::codes::limits::{HEADER_LEN, MAX_MESSAGE_LEN};
-use crate::put::{header_octets, push_avp_list, write_message};
 use crate::size::avp_list_size;
 use crate::{Avp, Message, WireFault};
 use std::alloc::Global;

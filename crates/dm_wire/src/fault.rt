@@ -1,6 +1,8 @@
 //! What octets can have wrong, and what can't be written.
 ghost use Rattle.std.specs.Prelude.{◌≡◌};
+ghost use Rattle.dm_wire.specs.Making.{fault_code};
 
+use crate::codes::results;
 use std::alloc::{AllocError, AllocFailed};
 use thiserror::Error;
 
@@ -25,6 +27,21 @@ pub enum WireFault {
     /// A growth was refused.
     #[error("out of memory")]
     NoMemory,
+}
+
+impl WireFault {
+    /// The Result-Code that tells the fault to a peer (RFC 6733, 7.1): 5011, 5014 or 5015. `TooLong` and `NoMemory` are
+    /// no faults of a peer's, and have none.
+    pub fn result_code(&self) -> Option<u32>
+        ensures { result ≡ fault_code self.now }
+    {
+        match self {
+            WireFault::TooShort | WireFault::Length => Some(results::INVALID_MESSAGE_LENGTH),
+            WireFault::Version => Some(results::UNSUPPORTED_VERSION),
+            WireFault::AvpLength(_) => Some(results::INVALID_AVP_LENGTH),
+            WireFault::TooLong | WireFault::NoMemory => None,
+        }
+    }
 }
 
 impl From<AllocError> for WireFault {

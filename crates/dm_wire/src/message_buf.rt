@@ -8,8 +8,8 @@ ghost use Rattle.dm_wire.specs.Finding.{is_of};
 ghost use Rattle.dm_wire.specs.Spelling.{SpellsList, SpellsMessage};
 ghost use Rattle.dm_wire.specs.Refusal.{Refuses};
 
+use crate::avp_places::{avp_at, avp_places, first_matching_avp};
 use crate::message_ref::HEADER_LEN;
-use crate::places::{avp_at, avp_places, first_matching_avp};
 use crate::{AvpRef, Header, MessageRef, WireFault};
 use std::alloc::Global;
 use std::marker::Model;
@@ -99,7 +99,8 @@ impl MessageBuf {
         self.places.len()
     }
 
-    /// The AVP of this number, from 0 on, where it lies. It never answers want of memory.
+    /// The AVP of this number, from 0 on, where it lies; `None` where there are no more. It never answers want of
+    /// memory.
     pub fn get(&self, index: usize) -> Option<AvpRef<'_>>
         ensures { (m : Message) → SpellsMessage m self.now → option_map avp_of result ≡ slice_get m.avps index }
     {

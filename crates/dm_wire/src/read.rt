@@ -5,7 +5,7 @@ ghost use Rattle.dm_wire.specs.Spelling.{SpellsAvp, SpellsHeader};
 ghost use Rattle.dm_wire.specs.Borrowed.{avp_of};
 ghost use Rattle.dm_wire.specs.Refusal.{BeginsWithNoAvp, IsTooShort, IsOtherVersion, IsOtherLength};
 
-use crate::front::{avp_of_extent, first_avp_extent};
+use crate::avp_extent::{avp_of_extent, first_avp_extent};
 use crate::{AvpRef, Header, WireFault};
 use byteorder::{BigEndian, ByteOrder};
 

@@ -6,7 +6,7 @@ ghost use Rattle.dm_text.specs.Numbers.{TellsNumber, TellsLongNumber};
 use crate::last_word::word_alone;
 use dm_text::{Words, read_long_number, read_number};
 
-/// The number of 64 bits that the next word tells.
+/// The number of 64 bits that the next word tells; None where there is no word, or it tells none.
 pub fn next_long_number(left: &mut Words<'_>) -> Option<u64>
     ensures told { IfSome result (λ n. (number : List ℕ) × (words left.old ≡ number ∷ words left.new)
         × TellsLongNumber n number) }
@@ -16,7 +16,7 @@ pub fn next_long_number(left: &mut Words<'_>) -> Option<u64>
     read_long_number(left.next()?)
 }
 
-/// The number of 32 bits that the next word tells.
+/// The number of 32 bits that the next word tells; None where there is no word, or it tells none.
 pub fn next_number(left: &mut Words<'_>) -> Option<u32>
     ensures told { IfSome result (λ n. (number : List ℕ) × (words left.old ≡ number ∷ words left.new)
         × TellsNumber n number) }
@@ -26,7 +26,8 @@ pub fn next_number(left: &mut Words<'_>) -> Option<u32>
     read_number(left.next()?)
 }
 
-/// Two numbers of 32 bits alone.
+/// The two numbers of 32 bits that the next two words tell, which are the last ones; None where there are fewer words
+/// or more, or one tells none.
 pub fn two_numbers(left: &mut Words<'_>) -> Option<(u32, u32)>
     ensures told { IfSome result (λ r. (first second : List ℕ) × (words left.old ≡ first ∷ second ∷ [])
         × TellsNumber r.0 first × TellsNumber r.1 second) }

@@ -18,7 +18,7 @@ use Rattle.dm_world.specs.declared.fault.Effect.TheVariants as effect
 use Rattle.dm_world.specs.declared.fault.WorldFault.{WorldFault}
 use Rattle.dm_world.specs.declared.happening.Happening as declared_happening
 use Rattle.dm_world.specs.declared.happening.Happening.TheVariants as happening
-use Rattle.dm_world.specs.declared.made.MadeEnds.{MadeEnds}
+use Rattle.dm_world.specs.declared.made_ends.MadeEnds.{MadeEnds}
 use Rattle.dm_world.specs.Ends.{ends_of, AreSameEnds, is_among, AreNamed, MakesEnds, AreCleared, AreEndsAfter}
 use Rattle.dm_world.specs.Happening.{as_happening}
 use Rattle.dm_world.specs.Seen.{as_side, restart_link}

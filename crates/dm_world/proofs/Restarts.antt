@@ -7,7 +7,7 @@ use Rattle.dm_two_peers.specs.Facts.{AreSound, IsSoundWorld}
 use Rattle.dm_two_peers.specs.Worlds.{peer_on, with_peer, change_at}
 use Rattle.dm_two_peers.specs.Happens.{restart_links}
 use Rattle.dm_octet_peers.specs.Octets.{octet_peers}
-use Rattle.dm_world.specs.declared.made.MadeEnds.{MadeEnds}
+use Rattle.dm_world.specs.declared.made_ends.MadeEnds.{MadeEnds}
 use Rattle.dm_world.specs.declared.net.Net.{Net}
 use Rattle.dm_world.specs.Asking.{peer_of, with_peer_of, reset_of}
 use Rattle.dm_world.specs.Ends.{ends_of, NamesFresh, AreNamed, restart_each, numbers, held_numbers}

@@ -10,7 +10,7 @@ use Rattle.dm_world.specs.declared.fault.Effect.{Effect}
 use Rattle.dm_world.specs.declared.fault.Effect.TheVariants as effect
 use Rattle.dm_world.specs.declared.happening.Happening as declared_happening
 use Rattle.dm_world.specs.declared.happening.Happening.TheVariants as happening
-use Rattle.dm_world.specs.declared.made.MadeEnds.{MadeEnds}
+use Rattle.dm_world.specs.declared.made_ends.MadeEnds.{MadeEnds}
 use Rattle.dm_world.specs.Seen.{as_side, restart_link}
 
 -- the links on which an end was made for a side

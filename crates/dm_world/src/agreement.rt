@@ -10,7 +10,7 @@ use crate::link::Link;
 use crate::{Side, links};
 use dm_peer::{Conn, Peer};
 
-/// Whether the two connections, where both are there, are one.
+/// Whether the two connections are one; true too where one of them is missing.
 pub(crate) fn are_same_conn(one: Option<Conn>, other: Option<Conn>) -> bool
     ensures { result ≡ are_one one other }
 {
@@ -79,7 +79,7 @@ pub(crate) fn peers_agree(a: &Peer, b: &Peer, links: &[Link]) -> bool
         && are_agreed(false, links, accepted_a, accepted_b)
 }
 
-/// The connection that both peers are open on.
+/// The connection that both peers are open on; None where there is none.
 pub(crate) fn open_on_both(a: &Peer, b: &Peer) -> Option<Conn>
     ensures value { result ≡ open_on_both a.now.standing.core b.now.standing.core }
     ensures found { IfSome result (λ c. AreBothOpenOn a.now.standing.core b.now.standing.core c.0) }

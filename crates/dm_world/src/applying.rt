@@ -10,7 +10,7 @@ ghost use Rattle.dm_world.specs.Happening.{as_happening, is_pending_at, may_want
 ghost use Rattle.dm_world.specs.Seen.{as_links, as_side};
 ghost use Rattle.dm_world.specs.Views.{as_world, Effects, IsFault};
 
-use crate::made::MadeEnds;
+use crate::made_ends::MadeEnds;
 use crate::net::Net;
 use crate::{Effect, Happening, Side, WorldFault};
 use dm_dict::NoMemory;
@@ -18,7 +18,7 @@ use dm_peer::{Conn, Event};
 use std::alloc::Global;
 
 impl Net {
-    /// The link's connect can't come about.
+    /// Tells the link's opener that its connect can't come about; ignored where no connect is pending.
     fn nack(&mut self, alloc: Global, conn: Conn) -> Result<Effect, WorldFault>
         ensures step { IfOk result (λ effect. Effects effect (happens octet_peers (as_world self.old) (Nacks conn.0))
             (as_world self.old) (as_world self.new)) }
@@ -35,7 +35,7 @@ impl Net {
         Ok(self.tell_side(alloc, opener, Event::Nack(conn), None)?)
     }
 
-    /// The link is lost, but for so many first octets towards A and towards B.
+    /// The link is lost, but for so many first octets towards A and towards B; ignored where that changes nothing.
     fn lose(&mut self, conn: Conn, to_a: u32, to_b: u32) -> Result<Effect, WorldFault>
         ensures step { IfOk result (λ effect. Effects effect
             (happens octet_peers (as_world self.old) (Loses conn.0 to_a to_b)) (as_world self.old)
@@ -63,7 +63,7 @@ impl Net {
         self.tell_side(alloc, side, Event::Submit(octets), None)
     }
 
-    /// One happening.
+    /// Applies one happening. Behind an `Err` all is as it was.
     pub(crate) fn apply(
         &mut self,
         alloc: Global,

@@ -11,7 +11,7 @@ ghost use Rattle.dm_world.specs.Seen.{as_side, as_links};
 ghost use Rattle.dm_world.specs.Views.{as_world, Effects, IsFault, front_of};
 
 use crate::direction::{Handed, Next, empty_framer};
-use crate::following::enter_link;
+use crate::events_on_links::enter_link;
 use crate::link::End;
 use crate::net::Net;
 use crate::{Effect, Side, WorldFault};
@@ -87,7 +87,7 @@ impl Net {
         }
     }
 
-    /// What is next on the link comes to the side.
+    /// What is next on the link comes to the side; ignored where nothing is.
     pub(crate) fn deliver(
         &mut self,
         alloc: Global,

@@ -99,7 +99,7 @@ fn framed_message(framer: &Framer, message: &[u8], taken: usize) -> Result<Hande
     }
 }
 
-/// The front message.
+/// The front message; None where there is none.
 fn front_message(queue: &VecDeque<Octets>) -> Option<&[u8]>
     ensures { option_map (λ octets. octets.now) result ≡ slice_get queue.now.items 0 }
 {
@@ -137,7 +137,7 @@ impl Direction {
         }
     }
 
-    /// Room for so many more messages.
+    /// Makes room for so many more messages.
     pub(crate) fn reserve(&mut self, count: usize) -> Result<(), AllocError>
         ensures same { self.new.direction ≡ self.old.direction }
         ensures room { OnOk result (count ≤ self.new.room) }
@@ -170,8 +170,8 @@ impl Direction {
         }
     }
 
-    /// The front message, as a framer hands it out which was fed the octets that were delivered, and then the rest. The
-    /// direction stays as it is.
+    /// The front message, as a framer hands it out which was fed the octets that were delivered, and then the rest;
+    /// None where there is none. The direction stays as it is.
     pub(crate) fn hand_out_front(&self) -> Result<Option<Handed>, NoMemory>
         ensures message { IfOk result (λ found.
             option_map (λ handed. handed.message.items) found ≡ slice_get self.now.direction.messages 0) }
@@ -259,7 +259,7 @@ impl Direction {
         }
     }
 
-    /// Whether a disconnect is in.
+    /// Whether a disconnect is in, was delivered, or neither.
     pub(crate) fn mark(&self) -> Mark
         ensures { as_mark result ≡ self.now.direction.mark }
     {

@@ -1,24 +1,24 @@
 //! Two peers and the links between them: whatever happens to them, in whatever order, they agree on what is open.
 #![tactic(auto)]
 
+mod acks_and_restarts;
 mod agreement;
 mod applying;
 mod delivering;
 mod direction;
+mod events_on_links;
 mod fault;
-mod following;
 mod happening;
 pub mod laws;
 mod link;
 mod links;
-mod made;
+mod made_ends;
 mod net;
 mod pair;
-mod restarting;
 mod rooms;
 mod running;
 mod side;
-mod starting;
+mod starts_and_timeouts;
 mod world;
 
 pub use dm_peer::{Cause, Config, Conn, Node, Peer};

@@ -80,7 +80,7 @@ impl Link {
         }
     }
 
-    /// Room for so many messages that the side sends.
+    /// Makes room for so many messages that the side sends.
     pub(crate) fn reserve(&mut self, side: Side, count: usize) -> Result<(), AllocError>
         ensures same { as_link self.new ≡ as_link self.old }
         ensures room { OnOk result (count ≤ out_room (as_side side) self.new) }
@@ -93,7 +93,7 @@ impl Link {
         }
     }
 
-    /// The side sends a message.
+    /// The side sends a message, which goes nowhere where the link isn't up.
     pub(crate) fn send_message(&mut self, side: Side, message: Octets)
         requires room { 0 < out_room (as_side side) self.old }
         requires frame { IsFrame max_message_len message }

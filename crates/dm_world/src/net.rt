@@ -13,7 +13,7 @@ ghost use Rattle.dm_world.specs.Seen.{as_side, as_links};
 ghost use Rattle.dm_world.specs.Telling.{is_start, FramerFits};
 ghost use Rattle.dm_world.specs.Views.{as_world, Effects};
 
-use crate::following::{follow_event, named_link};
+use crate::events_on_links::{follow_event, named_link};
 use crate::link::Link;
 use crate::pair::Pair;
 use crate::rooms::make_room;
@@ -33,7 +33,7 @@ pub(crate) struct Net {
 }
 
 impl Net {
-    /// The index of the link that a happening names.
+    /// The index of the link that a happening names; `NoLink` where there is none.
     pub(crate) fn index_of(&self, conn: Conn) -> Result<usize, WorldFault>
         ensures there { IfOk result (λ index. (index ≡ conn.0) × (index < length self.now.links.items)) }
         ensures none { IfErr result (λ fault.
@@ -80,8 +80,8 @@ impl Net {
         self.pair.ask_side(alloc, side, event)
     }
 
-    /// The side's peer is told of the event. Where a message arrived the framer, which then has handed it out, takes
-    /// the place of the one that holds octets of it.
+    /// The side's peer is told of the event; ignored where it refuses it. Where a message arrived the framer, which
+    /// then has handed it out, takes the place of the one that holds octets of it.
     pub(crate) fn tell_side(
         &mut self,
         alloc: Global,

@@ -11,7 +11,7 @@ use dm_peer::{Conn, Peer};
 /// How many messages a peer sends at one event at most.
 const MAX_SENDS: usize = 4;
 
-/// Room on the link of a connection, if there is one.
+/// Makes room for what a peer sends at one event on the link of a connection, if there is one.
 fn make_room_on(links: &mut Vec<Link>, side: Side, conn: Option<Conn>) -> Result<(), NoMemory>
     ensures same { as_links links.new.items ≡ as_links links.old.items }
     ensures room { OnOk result ((c : ℕ) → IsTrue (is_conn conn c) → HasRoom (as_side side) links.new.items 4 c) }
@@ -26,7 +26,7 @@ fn make_room_on(links: &mut Vec<Link>, side: Side, conn: Option<Conn>) -> Result
     }
 }
 
-/// Room on the links that the side's peer holds, and on the one that is named.
+/// Makes room for what the side's peer sends at one event, on the links that it holds, and on the one that is named.
 pub(crate) fn make_room(
     links: &mut Vec<Link>,
     side: Side,

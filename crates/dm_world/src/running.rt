@@ -112,7 +112,8 @@ impl World {
         ended
     }
 
-    /// Happenings, one after the other, up to the first that isn't applied.
+    /// Applies happenings, one after the other, up to the first that isn't applied. It answers how many were, and why
+    /// the next one wasn't; None where all were.
     fn apply_each(&mut self, alloc: Global, list: &[Happening]) -> (usize, Option<WorldFault>)
         ensures ran { RanTo self.old (take result.0 list.now) self.new }
         ensures whole { result.1 ≡ None → result.0 ≡ length list.now }

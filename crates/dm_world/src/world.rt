@@ -5,7 +5,7 @@ ghost use Rattle.dm_octet_peers.specs.Laws.{fresh_peer};
 ghost use Rattle.dm_world.specs.New.{new_fault};
 
 use crate::agreement::{open_on_both, peers_agree};
-use crate::made::MadeEnds;
+use crate::made_ends::MadeEnds;
 use crate::net::Net;
 use crate::pair::Pair;
 use crate::{Effect, Happening, NewFault, Side, WorldFault, links};
@@ -50,7 +50,7 @@ impl Debug for World {
     }
 }
 
-/// Why there is no world of these configurations.
+/// Why there is no world of these configurations; None where there is one.
 fn pairing_fault(a: &Config, b: &Config) -> Option<NewFault>
     ensures { result ≡ new_fault a.now b.now }
 {
@@ -154,7 +154,7 @@ impl World {
         links::are_quiet(self.net.links.as_slice())
     }
 
-    /// The connection that both sides are open on. It never answers want of memory.
+    /// The connection that both sides are open on; None where there is none. It never answers want of memory.
     pub fn open_link(&self) -> Option<Conn>
         ensures value { result ≡ open_link self.now }
         ensures found { IfSome result (λ c.

@@ -71,7 +71,7 @@ fn ports_of(alloc: Global, matches: &ArgMatches<'_>) -> Result<Vec<u16>> {
     Ok(ports)
 }
 
-/// The text of an option.
+/// The text of the option with this name; None where it isn't given.
 fn option_text(alloc: Global, matches: &ArgMatches<'_>, name: &str) -> Result<Option<String>> {
     match matches.get_str(name) {
         Some(text) => Ok(Some(String::from_str(alloc, text).context("dmview")?)),
@@ -92,7 +92,7 @@ pub fn asked_of(alloc: Global, matches: &ArgMatches<'_>) -> Result<Asked> {
     })
 }
 
-/// The octets of a text.
+/// The octets of a text, where there is one.
 fn octets_of(text: &Option<String>) -> Option<&[u8]> {
     match text {
         Some(text) => Some(text.as_bytes()),
@@ -100,7 +100,7 @@ fn octets_of(text: &Option<String>) -> Option<&[u8]> {
     }
 }
 
-/// A command by its code, or else by its name.
+/// The command that a word asks for, by its code or else by its name; None where there is no word.
 fn wanted_command(word: &Option<String>) -> Option<Wanted<'_>> {
     match word {
         Some(word) => match word.parse::<u32>() {

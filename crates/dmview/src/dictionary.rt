@@ -105,7 +105,7 @@ fn dictionary_error(
     Error::msg(format_args!("dmview: {name}: line {number}: {words}"))
 }
 
-/// The file of a line that is counted through all files, and its number there.
+/// The file of a line that is counted through all files, and its number there; None where no file has it.
 fn file_and_line<'a>(
     names: &[&'a str],
     text: &[u8],
@@ -156,7 +156,7 @@ fn unknown_name_error(
     Error::msg(format_args!("dmview: {name}: line {number}: unknown name"))
 }
 
-/// What is said of a name that a file in this folder defines, where one does.
+/// What is said of an unknown name that a file in this folder defines; None where none does.
 fn error_with_defining_file(
     rt: &HostRuntime,
     name: &str,
@@ -178,12 +178,12 @@ fn error_with_defining_file(
     Ok(None)
 }
 
-/// A name as text.
+/// A name as text; `?` where it isn't UTF-8.
 fn name_text(word: &[u8]) -> &str {
     str::from_utf8(word).unwrap_or("?")
 }
 
-/// Whether a file can be read and defines the name.
+/// Whether the file at this path can be read and defines the name.
 fn is_defined_in(rt: &HostRuntime, path: &str, word: &[u8]) -> bool {
     let mut text = Vec::new(rt.alloc());
     let Ok(file) = File::open(rt, path) else {

@@ -5,19 +5,19 @@
 #![tactic(auto)]
 
 ghost use Rattle.std.specs.Prelude.{◌≡◌, true, false, if◌then◌else◌};
-ghost use Rattle.dm_view_lines.specs.declared.said.Task.TheVariants.{Show, Check, ShowJson, CheckJson};
+ghost use Rattle.dm_view_lines.specs.declared.message_reports.Task.TheVariants.{Show, Check, ShowJson, CheckJson};
 
 mod capture;
 mod command;
 mod dictionary;
 mod input;
-mod written;
+mod output;
 
 use crate::capture::{asked_of, has_capture_option, looks_of};
 use crate::command::command_line;
 use crate::dictionary::dictionary_of_files;
 use crate::input::{file_with_front, first_is_capture, joined_files, open_files, open_texts};
-use crate::written::write_said;
+use crate::output::write_said;
 use anyhow::{Context, Error, Result};
 use clap::{ArgMatches, error};
 use dm_dict::Dictionary;
@@ -35,7 +35,8 @@ use std::{env, mem};
 const MISPLACED: &str =
     "dmview: the input is no capture: --port, --any, --time, --peer, --session, --command and --bad are of captures";
 
-/// Why a run stopped, in words, and where it was read. Nothing is said where nobody reads on.
+/// The error of a run that stopped by this fault, with the name of what was read; or the status 3, without a word,
+/// where nobody reads the output any more.
 fn status_or_error(fault: RunFault, name: &str) -> Result<u8> {
     match fault {
         RunFault::Write(error) => {
@@ -192,7 +193,7 @@ fn are_captures(
     first_is_capture(rt, files, front, names)
 }
 
-/// Whether colours are wanted.
+/// Whether the output is coloured: always, never, or else where standard output is a terminal.
 fn is_coloured(rt: &HostRuntime, when: Option<&str>) -> bool {
     match when {
         Some("always") => true,
@@ -250,7 +251,8 @@ fn run_subcommand(rt: &HostRuntime, is_check: bool, matches: &ArgMatches<'_>) ->
     status
 }
 
-/// Says why the words are refused, or what they ask for, and tells the status.
+/// Prints why the words of the command line are refused, or the help or the version that they ask for, and tells the
+/// status.
 fn print_clap_error(rt: &HostRuntime, error: &clap::Error) -> Result<u8> {
     error.print(rt).context("dmview")?;
     if error.kind() == error::ErrorKind::OutOfMemory {

@@ -1,0 +1,80 @@
+use Rattle.std.proofs.Common.{◌≡◌, ◌<◌, ◌+◌, ◌++◌, ◌∷◌, [], length, length-append, None, Some, find, refl, sym, ap, ◌∙◌, arith}
+use Rattle.dm_tables.specs.Definitions.{is_coded}
+use Rattle.dm_wire.specs.Borrowed.{avp_of}
+use Rattle.dm_dict.specs.Locating.{found}
+use Rattle.dm_dict.proofs.Listed.{under_done}
+use Rattle.std.specs.Option.{option_copied}
+use Rattle.dm_dict.specs.Rules.{allows}
+use Rattle.dm_dict.proofs.Paths.{group_listed, located_next}
+use Rattle.dm_dict.proofs.avp_faults.+locating.Goals as goal
+
+pub locate_avp-locate_group-requires : goal.locate_avp-locate_group-requires
+locate_avp-locate_group-requires t c =
+    let fit = c.requires.fit in
+    let def = c.in-Some.field-0.def.now in
+    let code = c.args.avp.code in
+    let vendor = c.args.avp.vendor in
+    let found : find (is_coded code vendor) c.args.dictionary.now.tables.avps.items ≡ Some
+    def = sym (c.in-Some.ensures.def ∙ c.requires.def) in (
+      omega arith,
+      (
+        c.requires.linked,
+        (
+          fit,
+          (
+            record {
+              apart = fit.apart code vendor def found;
+              closed = fit.closed code vendor def found;
+              linked = c.in-Some.ensures.links;
+            },
+            c.requires.room,
+          ),
+        ),
+      ),
+    )
+
+pub locate_group-returns-in_default : goal.locate_group-returns-in_default
+locate_group-returns-in_default t c =
+    under_done c.locate_list.result
+    (λ listed. rw c.in_default.is
+    (group_listed c.args.depth (λ e. omega (arith, e, c.if-depth-eq0.false)) c.args.dictionary.now.tables.avps.items
+    c.args.nth c.args.rule.entries.now (avp_of c.args.avp) None None (found None c.args.findings.now)
+    (found None c.locate_list.new.findings) refl (sym c.spells_avps.ensures ∙ c.if-not-spells_avps.false)
+    (λ l is. listed l is)))
+    c.locate_list.ensures
+
+pub locate_group-returns : goal.locate_group-returns
+locate_group-returns t c =
+    let outer = c.in-Some.path.now in
+    let inner = c.inside-inside.result in
+    rw c.in-Some.is
+    (group_listed c.args.depth (λ e. omega (arith, e, c.if-depth-eq0.false)) c.args.dictionary.now.tables.avps.items
+    c.args.nth c.args.rule.entries.now (avp_of c.args.avp) (Some outer) (Some inner) (found (Some outer) c.args.findings.now)
+    (found (Some inner) c.locate_list-2.new.findings) (ap Some c.inside-inside.ensures.inside)
+    (sym c.spells_avps.ensures ∙ c.if-not-spells_avps.false)
+    (λ l is. c.in_ok-locate_list.ensures l is))
+
+pub locate_avps-loop-avp-preserved : goal.locate_avps-loop-avp-preserved
+locate_avps-loop-avp-preserved t c = λ all h.
+    let path = option_copied c.args.path in
+    let avps = c.args.dictionary.now.tables.avps.items in
+    let rule = c.args.rule.entries.now in
+    let a = avp_of c.in-Some.avp in
+    let (p, m, listed, within, numbered, so_far) = c.loop-avp.invariant all h in
+    let (k, is, behind) = c.in-Some.ensures.parts m listed in
+    let longer : length (p ++ a ∷ []) ≡ length p + 1 = length-append p (a ∷ []) in
+    let less = c.in-Some.ensures.less in
+    let size = c.requires.size in
+    let fits : length p + 1 < 18446744073709551616 = omega (arith, within, less, size) in (
+      p ++ a ∷ [],
+      k,
+      behind,
+      omega (arith, longer, within, less),
+      c.in_ok-nth.ensures.counted p fits numbered,
+      located_next path c.args.depth avps rule p m k a c.in_ok-nth.nth c.allows-allowed.result _ _ _ is
+          (c.allows-allowed.ensures ∙ ap allows c.look_up_by_marks-place.ensures.entry)
+          (c.in_ok-nth.ensures.nth p fits numbered) c.in_ok-locate_avp.ensures so_far,
+    )
+
+pub locate_avps-loop-avp-init : goal.locate_avps-loop-avp-init
+locate_avps-loop-avp-init t c = λ all h. ([], all, h, omega arith, λ a wanted. rw c.requires.none refl, refl)

@@ -1,0 +1,90 @@
+//! What the control bits of a segment do to both directions of its connection (RFC 9293, 3.5 and 3.6).
+ghost use Rattle.std.specs.Prelude.{◌≡◌, OnOk, OnErr};
+ghost use Rattle.dm_flows.specs.Connections.{is_same_syn, is_answering_syn, after_syn};
+ghost use Rattle.dm_flows.specs.Connections.{controlled, first_number};
+ghost use Rattle.dm_flows.specs.Connections.{HearsSegment, LeavesSegment};
+ghost use Rattle.dm_flows.specs.Tcps.{segment_seen};
+
+use crate::closing::is_open;
+use crate::flow::{Flow, number_behind};
+use crate::segment::Segment;
+use std::alloc::AllocError;
+
+/// Whether a SYN with this number is that of the connection, sent again.
+fn repeats_syn(own: &Flow, number: u32) -> bool
+    ensures { result ≡ is_same_syn own.now number }
+{
+    match own.syn() {
+        Some(syn) => is_open(own.closing()) && syn == number,
+        None => false,
+    }
+}
+
+/// Whether a SYN of this direction answers that of the other one, which was seen: nothing ended this direction, and it
+/// is its first SYN.
+fn answers_syn(own: &Flow, other: &Flow) -> bool
+    ensures { result ≡ is_answering_syn (record { own = own.now; other = other.now }) }
+{
+    is_open(own.closing()) && own.syn().is_none() && other.syn().is_some()
+}
+
+/// Takes a SYN with this number. The same one again changes nothing; else its direction begins, and the other one too,
+/// unless it answers that one's SYN.
+fn take_syn(own: &mut Flow, other: &mut Flow, number: u32)
+    ensures { record { own = own.new; other = other.new }
+        ≡ after_syn number (record { own = own.old; other = other.old }) }
+{
+    if repeats_syn(own, number) {
+        return;
+    }
+    if !answers_syn(own, other) {
+        other.begin_unseen();
+    }
+    own.begin(number);
+}
+
+/// The sequence number of a segment's first octet: that behind its SYN, where it has one (RFC 9293, 3.4).
+fn first_octet_number(segment: Segment<'_>) -> u32
+    ensures { result ≡ first_number (segment_seen segment.entry) }
+{
+    if segment.syn {
+        segment.sequence.wrapping_add(1)
+    } else {
+        segment.sequence
+    }
+}
+
+/// Does what a segment's control bits say, before its octets are taken: a RST ends both directions; else a SYN may
+/// begin them, and a FIN ends the sender's.
+fn apply_control_bits(own: &mut Flow, other: &mut Flow, segment: Segment<'_>)
+    ensures { record { own = own.new; other = other.new }
+        ≡ controlled (segment_seen segment.entry) (record { own = own.old; other = other.old }) }
+{
+    if segment.rst {
+        own.reset();
+        other.reset();
+        return;
+    }
+    if segment.syn {
+        take_syn(own, other, segment.sequence);
+    }
+    if segment.fin {
+        let last = number_behind(first_octet_number(segment), segment.payload.len());
+        own.finish(last);
+    }
+}
+
+/// Takes a segment of the direction `own`: its control bits, and then its octets.
+pub(crate) fn take_segment(
+    own: &mut Flow,
+    other: &mut Flow,
+    segment: Segment<'_>,
+) -> Result<(), AllocError>
+    ensures heard { OnOk result (HearsSegment (record { own = own.old; other = other.old })
+        (segment_seen segment.entry) (record { own = own.new; other = other.new })) }
+    ensures left { OnErr result (LeavesSegment (record { own = own.old; other = other.old })
+        (segment_seen segment.entry) (record { own = own.new; other = other.new })) }
+{
+    apply_control_bits(own, other, segment);
+    own.take(first_octet_number(segment), segment.payload)
+}

@@ -1,0 +1,16 @@
+-- What `for_host` makes, and why it makes none.
+use Rattle.std.proofs.Common.{◌∙◌, sym}
+use Rattle.dm_peer.specs.Hosts.{config_fault}
+use Rattle.dm_node.proofs.Welcomed.{fits_where_made}
+use Rattle.dm_node.proofs.offered_config.config_for_host.Goals as goal
+
+pub returns-in-Ok-clause-made : goal.returns-in-Ok-clause-made
+returns-in-Ok-clause-made c = record {
+  fits = fits_where_made (config_fault c.args.template.now.node.host c.args.host.now) c.in-Ok.config c.for_host.result c.in-Ok.is
+      c.for_host.ensures.refuses;
+  peer = c.in-Ok.ensures.peer;
+  node = c.in-Ok.ensures.node;
+  first_id = c.in-Ok.ensures.first_id;
+  dictionary = c.in-Ok.ensures.dictionary ∙ sym c.args.template.now.based;
+  compares = c.in-Ok.ensures.compares;
+}

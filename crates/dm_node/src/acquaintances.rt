@@ -1,0 +1,139 @@
+//! Whom each neighbour met, by number.
+ghost use Rattle.std.specs.Prelude.{◌≡◌, [], false, nat_lt, length, option_map, OnOk};
+ghost use Rattle.std.specs.Option.{option_copied};
+ghost use Rattle.dm_slots.specs.Acquaintances.{known_after, known_if_any};
+ghost use Rattle.dm_node.specs.NodeKnown.{known_of, HasSparePlace, acquaintance_at, with_nobody, without_known};
+ghost use Rattle.dm_node.specs.NodeKnown.{with_known, given_place};
+
+use dm_machine::{Conn, State};
+use dm_peer::Peer;
+use dm_slots::Acquaintance;
+use dm_wire::Octets;
+use std::alloc::{AllocError, Global};
+
+/// Changes what is known in the place by what came on the connection; nothing where nobody has the place.
+fn meet_in_place(
+    place: &mut Option<Acquaintance>,
+    exchange: Octets,
+    conn: Conn,
+    before: State,
+    peer: &Peer,
+)
+    ensures { place.new ≡ option_map (known_if_any exchange conn before peer.now) place.old }
+{
+    if let Some(known) = place {
+        known.meet_behind(exchange, conn, before, peer);
+    }
+}
+
+/// Changes what is known in the place by an event that brought no message; nothing where nobody has the place.
+fn meet_after_in_place(place: &mut Option<Acquaintance>, before: State, peer: &Peer)
+    ensures { place.new ≡ option_map (known_after before peer.now) place.old }
+{
+    if let Some(known) = place {
+        known.meet_after(before, peer);
+    }
+}
+
+/// Whom each neighbour met: a place for each of theirs.
+#[derive(Drop)]
+pub(crate) struct Acquaintances {
+    places: Vec<Option<Acquaintance>>,
+}
+
+impl Acquaintances {
+    /// No places. It takes no memory.
+    pub(crate) fn new(alloc: Global) -> Acquaintances
+        ensures { known_of result ≡ [] }
+    {
+        Acquaintances {
+            places: Vec::new(alloc),
+        }
+    }
+
+    /// What is known of the neighbour of the number, where there is one. It takes no memory.
+    pub(crate) fn get(&self, index: usize) -> Option<&Acquaintance>
+        ensures { option_copied result ≡ acquaintance_at (known_of self.now) index }
+    {
+        if index < self.places.len() {
+            self.places[index].as_ref()
+        } else {
+            None
+        }
+    }
+
+    /// Whether the number has a place. It takes no memory.
+    fn has_place(&self, index: usize) -> bool
+        ensures { result ≡ nat_lt index (length (known_of self.now)) }
+    {
+        index < self.places.len()
+    }
+
+    /// Makes room for a place more.
+    pub(crate) fn reserve(&mut self) -> Result<(), AllocError>
+        ensures same { known_of self.new ≡ known_of self.old }
+        ensures room { OnOk result (HasSparePlace self.new) }
+    {
+        match self.places.reserve(1) {
+            Ok(()) => Ok(()),
+            Err(_) => Err(AllocError),
+        }
+    }
+
+    /// Puts a place behind the others, in which nobody was met yet. It takes no memory.
+    pub(crate) fn push(&mut self)
+        requires { HasSparePlace self.old }
+        ensures { known_of self.new ≡ with_nobody (known_of self.old) }
+    {
+        let alloc = *self.places.allocator();
+        self.places.push_reserved(Some(Acquaintance::new(alloc)));
+    }
+
+    /// Puts a new place behind the others where the number has none yet: that of a host that was taken in. It takes no
+    /// memory.
+    pub(crate) fn give_place(&mut self, index: usize)
+        requires { nat_lt index (length (known_of self.old)) ≡ false → HasSparePlace self.old }
+        ensures { known_of self.new ≡ given_place index (known_of self.old) }
+    {
+        if !self.has_place(index) {
+            self.push();
+        }
+    }
+
+    /// Empties the place of the number. It takes no memory.
+    pub(crate) fn forget(&mut self, index: usize)
+        ensures { known_of self.new ≡ without_known (known_of self.old) index }
+    {
+        if index < self.places.len() {
+            let _gone = self.places[index].take();
+        }
+    }
+
+    /// What is known of the neighbour of the number behind what came on the connection
+    /// ([`Acquaintance::meet_behind`]). It takes no memory.
+    pub(crate) fn meet_behind(
+        &mut self,
+        index: usize,
+        exchange: Octets,
+        conn: Conn,
+        before: State,
+        peer: &Peer,
+    )
+        ensures { known_of self.new
+            ≡ with_known index (known_if_any exchange conn before peer.now) (known_of self.old) }
+    {
+        if index < self.places.len() {
+            meet_in_place(&mut self.places[index], exchange, conn, before, peer);
+        }
+    }
+
+    /// What is known of the neighbour of the number behind an event that brought no message
+    /// ([`Acquaintance::meet_after`]). It takes no memory.
+    pub(crate) fn meet_after(&mut self, index: usize, before: State, peer: &Peer)
+        ensures { known_of self.new ≡ with_known index (known_after before peer.now) (known_of self.old) }
+    {
+        if index < self.places.len() {
+            meet_after_in_place(&mut self.places[index], before, peer);
+        }
+    }
+}

@@ -1,0 +1,358 @@
+//! Orders that a node takes, and what each comes to.
+ghost use Rattle.std.specs.Prelude.{◌≡◌, ◌⊎◌, ℕ, [], Some, Err, All, false, IfErr, IfSome, IfNone, OnOk, OnErr};
+ghost use Rattle.dm_node.specs.Declining.{IsDeclinedHere, IsRuledOut, IsDirected, IsByRule, IsRuleOf, IsUnruled};
+ghost use Rattle.dm_node.specs.Declining.{GoesByAllRules, EventTakesMemory};
+ghost use Rattle.dm_node.specs.Policies.{no_strangers};
+ghost use Rattle.dm_node.specs.Telling.{Concerns, IsMisdirected, IsStrangeCer, StartsFree, told_of};
+ghost use Rattle.dm_node.specs.declared.events.NodeEvent.{NodeEvent as OneEvent};
+ghost use Rattle.dm_node.specs.declared.fault.OrderFault.{OrderFault};
+ghost use Rattle.dm_peer.specs.Refusing.{start_refusal};
+ghost use Rattle.dm_peer.specs.Spelled.{SendsSpelling};
+ghost use Rattle.dm_peer.specs.declared.fault.PeerFault.{PeerFault};
+ghost use Rattle.dm_node.specs.NodeOrders.{event_ordered, told_there, start_told};
+ghost use Rattle.dm_node.specs.NodeOrders.{ToldTakesMemory, OrderTakesMemory, OrderGoesByRules};
+ghost use Rattle.dm_node.specs.declared.fault.OrderFault.TheVariants as faults;
+ghost use Rattle.dm_peer.specs.declared.fault.PeerFault.TheVariants as peer_faults;
+ghost use Rattle.dm_slots.specs.Naming.{NamesThere, NamesAtMost};
+ghost use Rattle.dm_node.specs.NodeOrders.{NodeTakes, NodeTellsOnce, NodeTellsIfThere, NodeTellsStart};
+ghost use Rattle.dm_node.specs.NodeOrders.{NodeRefuses, NodeRefusesOnce, NodeRefusesIfThere, ShutsUnheld};
+ghost use Rattle.dm_node.specs.NodeOrders.{NodeTellsNack, NodeTellsEnd};
+ghost use Rattle.dm_node.specs.NodeKnown.{KnownAfterOrder};
+ghost use Rattle.std.specs.Option.{option_map};
+ghost use Rattle.dm_node.specs.NodeSeen.{node_state_of, node_known_of};
+ghost use Rattle.dm_node.specs.Answers.{IsUntold, asks_of};
+
+use crate::neighbours::neighbours_are_sound;
+use crate::settling::settle;
+use crate::telling::tell_event;
+use crate::{Answer, Node, NodeEvent, Order, OrderFault, Told};
+use dm_machine::{Conn, State};
+use dm_peer::laws::{each_event_names_what_it_takes, refusals_go_by_rule};
+use dm_peer::{Peer, PeerFault};
+use dm_slots::laws::what_is_there_stays;
+use std::alloc::Global;
+
+/// Why the peer refuses a Start; None where it takes one.
+fn peer_start_fault(peer: &Peer) -> Option<OrderFault>
+    ensures { result ≡ option_map faults.Peer (start_refusal peer.now.standing.core.state) }
+{
+    match peer.state() {
+        State::Closed => None,
+        _ => Some(OrderFault::Peer(PeerFault::NotClosed)),
+    }
+}
+
+impl Node {
+    ghost use Rattle.dm_node.specs.declared.events.NodeEvent.TheVariants.{Start, Nack, Gone};
+    ghost use Rattle.dm_slots.specs.Intakes.{is_there};
+
+    /// Takes an order: `answer` says what it asks for, and of which neighbour, or that no event is told. What comes on
+    /// a connection is heard by [`Node::hear`]. Where the neighbour wasn't open and is open behind the event, which
+    /// ends an election (RFC 6733, 5.6.4), what is known of it is from then on the CER that waited; else what is known
+    /// stays, also where the neighbour begins anew.
+    ///
+    /// # Errors
+    /// `NoNeighbour` for a number that no neighbour has, but not of a Reset, nor of a Start whose connection is there:
+    /// these do nothing then. What the neighbour's peer refuses, and `NoMemory`. The node is as it was after each, and
+    /// the order can be told again.
+    pub fn order(
+        &mut self,
+        alloc: Global,
+        order: Order<'_>,
+        answer: &mut Answer,
+    ) -> Result<(), OrderFault>
+        ensures taken { OnOk result (NodeTakes order.entry (node_state_of self.old) (asks_of answer.new)
+            (node_state_of self.new)) }
+        ensures refused { IfErr result (λ fault. (fault ≡ faults.Peer peer_faults.NoMemory)
+            ⊎ NodeRefuses order.entry (node_state_of self.old) fault) }
+        ensures unchanged { OnErr result (node_state_of self.new ≡ node_state_of self.old) }
+        ensures met { OnOk result (KnownAfterOrder (asks_of answer.new) (node_state_of self.old)
+            (node_state_of self.new) (node_known_of self.old) (node_known_of self.new)) }
+        ensures same { OnErr result (node_known_of self.new ≡ node_known_of self.old) }
+        // But for want of memory an order whose event is misdirected, or is ruled out at the neighbour that it
+        // concerns, is refused so, and no other is.
+        ensures misdirected { (e : OneEvent) (f : OrderFault)
+            → event_ordered order.entry (node_state_of self.old) ≡ Some e
+            → IsMisdirected (node_state_of self.old).peers e f → result ≡ Err f }
+        ensures refuses { (e : OneEvent) (i : ℕ) (f : PeerFault)
+            → event_ordered order.entry (node_state_of self.old) ≡ Some e → IsDirected (node_state_of self.old).peers e
+            → Concerns no_strangers (node_state_of self.old).peers e i
+            → IsRuledOut (node_state_of self.old).peers i (told_of e) f → result ≡ Err (faults.Peer f) }
+        ensures ruled { IfErr result (λ f. (f ≡ faults.Peer peer_faults.NoMemory)
+            ⊎ ((e : OneEvent) × (event_ordered order.entry (node_state_of self.old) ≡ Some e)
+            × IsByRule no_strangers (node_state_of self.old).peers e f)) }
+        // Memory is wanted only for a connection that is new, and for what the neighbour sends or hands up.
+        ensures memory { result ≡ Err (faults.Peer peer_faults.NoMemory)
+            → OrderTakesMemory order.entry (node_state_of self.old) }
+        // The octets of each Send spell a message.
+        ensures spelled { OnOk result (All SendsSpelling answer.new.actions.items) }
+        // Behind an `Err` nothing is asked for.
+        ensures cleared { OnErr result (IsUntold answer.new) }
+    {
+        answer.clear();
+        let done = self.take_order(alloc, order, answer);
+        if done.is_err() {
+            answer.clear();
+        }
+        done
+    }
+
+    /// Takes an order, and puts what it asks for into `answer`, which says before that nothing was told. Behind an
+    /// `Err` the node is as it was.
+    fn take_order(
+        &mut self,
+        alloc: Global,
+        order: Order<'_>,
+        answer: &mut Answer,
+    ) -> Result<(), OrderFault>
+        requires { IsUntold answer.old }
+        ensures taken { OnOk result (NodeTakes order.entry (node_state_of self.old) (asks_of answer.new)
+            (node_state_of self.new)) }
+        ensures refused { IfErr result (λ fault. (fault ≡ faults.Peer peer_faults.NoMemory)
+            ⊎ NodeRefuses order.entry (node_state_of self.old) fault) }
+        ensures unchanged { OnErr result (node_state_of self.new ≡ node_state_of self.old) }
+        ensures met { OnOk result (KnownAfterOrder (asks_of answer.new) (node_state_of self.old)
+            (node_state_of self.new) (node_known_of self.old) (node_known_of self.new)) }
+        ensures same { OnErr result (node_known_of self.new ≡ node_known_of self.old) }
+        ensures rules { OrderGoesByRules (event_ordered order.entry (node_state_of self.old))
+            (node_state_of self.old) result }
+        ensures memory { result ≡ Err (faults.Peer peer_faults.NoMemory)
+            → OrderTakesMemory order.entry (node_state_of self.old) }
+        ensures spelled { OnOk result (All SendsSpelling answer.new.actions.items) }
+    {
+        match order {
+            Order::Start(index, conn) => self.start(alloc, index, conn, answer),
+            Order::Ack(conn) => self.tell_if_there(alloc, conn, NodeEvent::Ack(conn), answer),
+            Order::Nack(conn) => self.nack(alloc, conn, answer),
+            Order::Accept(conn) => match self.open(alloc, conn) {
+                Ok(()) => Ok(()),
+                Err(_) => Err(OrderFault::Peer(PeerFault::NoMemory)),
+            },
+            Order::Gone(conn) => self.gone(alloc, conn, answer),
+            Order::Timeout(index) => self.tell_ordered(alloc, NodeEvent::Timeout(index), answer),
+            Order::Tick(index) => self.tell_ordered(alloc, NodeEvent::Tick(index), answer),
+            Order::Stop(index, cause) => self.tell_ordered(
+                alloc,
+                NodeEvent::Stop(index, cause),
+                answer,
+            ),
+            Order::Submit(index, octets) => {
+                self.tell_ordered(alloc, NodeEvent::Submit(index, octets), answer)
+            }
+            Order::Reset(index) => {
+                self.set_back(index);
+                Ok(())
+            }
+            Order::ResetAll => {
+                self.set_back_all();
+                Ok(())
+            }
+        }
+    }
+
+    /// Tells an event of an order, which names no connection that isn't there.
+    fn tell_ordered(
+        &mut self,
+        alloc: Global,
+        event: NodeEvent<'_>,
+        answer: &mut Answer,
+    ) -> Result<(), OrderFault>
+        requires there { NamesThere (told_of event) (node_state_of self.old).intakes }
+        requires calm { IsStrangeCer event → ⊥ }
+        requires free { StartsFree (node_state_of self.old).peers event }
+        requires none { answer.old.actions.items ≡ [] }
+        ensures told { OnOk result (NodeTellsOnce event.entry (node_state_of self.old)
+            (asks_of answer.new) (node_state_of self.new)) }
+        ensures refused { IfErr result (λ fault. (fault ≡ faults.Peer peer_faults.NoMemory)
+            ⊎ NodeRefusesOnce event.entry (node_state_of self.old) fault) }
+        ensures unchanged { OnErr result (node_state_of self.new ≡ node_state_of self.old) }
+        ensures met { OnOk result (KnownAfterOrder (asks_of answer.new) (node_state_of self.old)
+            (node_state_of self.new) (node_known_of self.old) (node_known_of self.new)) }
+        ensures same { OnErr result (node_known_of self.new ≡ node_known_of self.old) }
+        ensures rules { GoesByAllRules no_strangers (node_state_of self.old).peers event.entry result }
+        ensures memory { result ≡ Err (faults.Peer peer_faults.NoMemory)
+            → EventTakesMemory no_strangers (node_state_of self.old).peers event.entry }
+        ensures spelled { OnOk result (All SendsSpelling answer.new.actions.items) }
+    {
+        match tell_event(
+            alloc,
+            &self.own,
+            &mut self.neighbours,
+            &mut self.known,
+            &self.intakes,
+            &(),
+            event,
+            answer,
+        ) {
+            Ok(before) => {
+                settle(
+                    &self.neighbours,
+                    &mut self.intakes,
+                    before,
+                    self.most,
+                    answer,
+                );
+                answer.told = Told::Event;
+                Ok(())
+            }
+            Err(fault) => Err(fault),
+        }
+    }
+
+    /// Tells an event of the connection, which names no other. Nothing is told where the connection isn't there.
+    fn tell_if_there(
+        &mut self,
+        alloc: Global,
+        conn: Conn,
+        event: NodeEvent<'_>,
+        answer: &mut Answer,
+    ) -> Result<(), OrderFault>
+        requires conn { NamesAtMost (told_of event) conn }
+        requires calm { IsStrangeCer event → ⊥ }
+        requires free { StartsFree (node_state_of self.old).peers event }
+        requires empty { IsUntold answer.old }
+        ensures told { OnOk result (NodeTellsIfThere conn event.entry (node_state_of self.old)
+            (asks_of answer.new) (node_state_of self.new)) }
+        ensures refused { IfErr result (λ fault. (fault ≡ faults.Peer peer_faults.NoMemory)
+            ⊎ NodeRefusesIfThere conn event.entry (node_state_of self.old) fault) }
+        ensures unchanged { OnErr result (node_state_of self.new ≡ node_state_of self.old) }
+        ensures met { OnOk result (KnownAfterOrder (asks_of answer.new) (node_state_of self.old)
+            (node_state_of self.new) (node_known_of self.old) (node_known_of self.new)) }
+        ensures same { OnErr result (node_known_of self.new ≡ node_known_of self.old) }
+        ensures rules { OrderGoesByRules (told_there conn event.entry (node_state_of self.old))
+            (node_state_of self.old) result }
+        ensures memory { result ≡ Err (faults.Peer peer_faults.NoMemory)
+            → ToldTakesMemory (told_there conn event.entry (node_state_of self.old)) (node_state_of self.old) }
+        ensures spelled { OnOk result (All SendsSpelling answer.new.actions.items) }
+    {
+        if self.has(conn) {
+            self.tell_ordered(alloc, event, answer)
+        } else {
+            Ok(())
+        }
+    }
+
+    /// Forgets the connection, unless a neighbour holds it. It never answers want of memory.
+    fn shut_unheld(&mut self, conn: Conn)
+        ensures shut { ShutsUnheld conn (node_state_of self.old) (node_state_of self.new) }
+        ensures known { node_known_of self.new ≡ node_known_of self.old }
+    {
+        match self.intakes.owner(conn) {
+            Some(_) => {}
+            None => self.shut(conn),
+        }
+    }
+
+    /// Tells that the connection can't be made, and forgets it then, unless a neighbour holds it.
+    fn nack(&mut self, alloc: Global, conn: Conn, answer: &mut Answer) -> Result<(), OrderFault>
+        requires { IsUntold answer.old }
+        ensures told { OnOk result (NodeTellsNack conn (node_state_of self.old)
+            (asks_of answer.new) (node_state_of self.new)) }
+        ensures refused { IfErr result (λ fault. (fault ≡ faults.Peer peer_faults.NoMemory)
+            ⊎ NodeRefusesIfThere conn (Nack conn) (node_state_of self.old) fault) }
+        ensures unchanged { OnErr result (node_state_of self.new ≡ node_state_of self.old) }
+        ensures met { OnOk result (KnownAfterOrder (asks_of answer.new) (node_state_of self.old)
+            (node_state_of self.new) (node_known_of self.old) (node_known_of self.new)) }
+        ensures same { OnErr result (node_known_of self.new ≡ node_known_of self.old) }
+        ensures rules { OrderGoesByRules (told_there conn (Nack conn) (node_state_of self.old))
+            (node_state_of self.old) result }
+        ensures memory { result ≡ Err (faults.Peer peer_faults.NoMemory)
+            → ToldTakesMemory (told_there conn (Nack conn) (node_state_of self.old)) (node_state_of self.old) }
+        ensures spelled { OnOk result (All SendsSpelling answer.new.actions.items) }
+    {
+        match self.tell_if_there(alloc, conn, NodeEvent::Nack(conn), answer) {
+            Ok(()) => {
+                self.shut_unheld(conn);
+                Ok(())
+            }
+            Err(fault) => Err(fault),
+        }
+    }
+
+    /// Tells the end of the connection, and forgets it then.
+    fn gone(&mut self, alloc: Global, conn: Conn, answer: &mut Answer) -> Result<(), OrderFault>
+        requires { IsUntold answer.old }
+        ensures told { OnOk result (NodeTellsEnd conn (Gone conn) (node_state_of self.old)
+            (asks_of answer.new) (node_state_of self.new)) }
+        ensures refused { IfErr result (λ fault. (fault ≡ faults.Peer peer_faults.NoMemory)
+            ⊎ NodeRefusesIfThere conn (Gone conn) (node_state_of self.old) fault) }
+        ensures unchanged { OnErr result (node_state_of self.new ≡ node_state_of self.old) }
+        ensures met { OnOk result (KnownAfterOrder (asks_of answer.new) (node_state_of self.old)
+            (node_state_of self.new) (node_known_of self.old) (node_known_of self.new)) }
+        ensures same { OnErr result (node_known_of self.new ≡ node_known_of self.old) }
+        ensures rules { OrderGoesByRules (told_there conn (Gone conn) (node_state_of self.old))
+            (node_state_of self.old) result }
+        ensures memory { result ≡ Err (faults.Peer peer_faults.NoMemory)
+            → ToldTakesMemory (told_there conn (Gone conn) (node_state_of self.old)) (node_state_of self.old) }
+        ensures spelled { OnOk result (All SendsSpelling answer.new.actions.items) }
+    {
+        each_event_names_what_it_takes();
+        neighbours_are_sound(&self.neighbours);
+        match self.tell_if_there(alloc, conn, NodeEvent::Gone(conn), answer) {
+            Ok(()) => {
+                self.shut(conn);
+                Ok(())
+            }
+            Err(fault) => Err(fault),
+        }
+    }
+
+    /// Why the rules refuse a Start of the connection, if they do: nobody has the number, or the neighbour isn't
+    /// Closed.
+    fn start_fault(&self, index: usize, conn: Conn) -> Option<OrderFault>
+        ensures declined { IfSome result (IsDeclinedHere no_strangers (node_state_of self.now).peers
+            (Start index conn)) }
+        ensures rule { IfSome result (IsRuleOf no_strangers (node_state_of self.now).peers (Start index conn)) }
+        ensures none { IfNone result (IsUnruled no_strangers (node_state_of self.now).peers (Start index conn)) }
+    {
+        refusals_go_by_rule();
+        neighbours_are_sound(&self.neighbours);
+        match self.neighbours.peer(index) {
+            Some(peer) => peer_start_fault(peer),
+            None => Some(OrderFault::NoNeighbour),
+        }
+    }
+
+    /// Tells a Start of the connection to the neighbour of the number, and the connection is there from then on.
+    fn start(
+        &mut self,
+        alloc: Global,
+        index: usize,
+        conn: Conn,
+        answer: &mut Answer,
+    ) -> Result<(), OrderFault>
+        requires { IsUntold answer.old }
+        ensures told { OnOk result (NodeTellsStart index conn (node_state_of self.old)
+            (asks_of answer.new) (node_state_of self.new)) }
+        ensures refused { IfErr result (λ fault. (fault ≡ faults.Peer peer_faults.NoMemory)
+            ⊎ ((is_there conn.0 (node_state_of self.old).intakes ≡ false)
+            × NodeRefusesOnce (Start index conn) (node_state_of self.old) fault)) }
+        ensures unchanged { OnErr result (node_state_of self.new ≡ node_state_of self.old) }
+        ensures met { OnOk result (KnownAfterOrder (asks_of answer.new) (node_state_of self.old)
+            (node_state_of self.new) (node_known_of self.old) (node_known_of self.new)) }
+        ensures same { OnErr result (node_known_of self.new ≡ node_known_of self.old) }
+        ensures rules { OrderGoesByRules (start_told index conn (node_state_of self.old))
+            (node_state_of self.old) result }
+        ensures memory { result ≡ Err (faults.Peer peer_faults.NoMemory)
+            → is_there conn.0 (node_state_of self.old).intakes ≡ false }
+        ensures spelled { OnOk result (All SendsSpelling answer.new.actions.items) }
+    {
+        what_is_there_stays();
+        if self.has(conn) {
+            return Ok(());
+        }
+        if let Some(fault) = self.start_fault(index, conn) {
+            return Err(fault);
+        }
+        match self.open(alloc, conn) {
+            Ok(()) => match self.tell_ordered(alloc, NodeEvent::Start(index, conn), answer) {
+                Ok(()) => Ok(()),
+                Err(fault) => {
+                    self.shut(conn);
+                    Err(fault)
+                }
+            },
+            Err(_) => Err(OrderFault::Peer(PeerFault::NoMemory)),
+        }
+    }
+}

@@ -1,0 +1,58 @@
+//! Connections that are let go, since too many are held, or too much.
+ghost use Rattle.std.specs.Prelude.{◌≡◌, ◌++◌, ℕ, List, IfOk, OnOk};
+ghost use Rattle.std.specs.String.{string_bytes};
+ghost use Rattle.dm_connections.specs.declared.ends.Ends.{Ends};
+ghost use Rattle.dm_trace_view.specs.Traces.{LetsGo, gone_text};
+
+use crate::lost::{Lost, LostIn, put_lost};
+use crate::packet_context::Hearing;
+use dm_connections::{Connections, LetGo, TwoWay};
+use dm_dict::NoMemory;
+use dm_view_lines::Task;
+use std::alloc::{AllocError, Global};
+
+/// Appends that a connection was let go.
+fn put_let_go<C: TwoWay>(
+    alloc: Global,
+    text: &mut String,
+    task: Task,
+    packet: u64,
+    gone: &LetGo<C>,
+) -> Result<(), AllocError>
+    ensures { OnOk result (string_bytes text.new
+        ≡ string_bytes text.old ++ gone_text C.pending_in task packet (gone.now.ends, gone.now.connection)) }
+{
+    let told = LostIn {
+        packet,
+        from: gone.ends.first,
+        to: gone.ends.second,
+        lost: Lost::LetGo(gone.connection.octets_pending()),
+    };
+    put_lost(alloc, text, task, told)
+}
+
+/// Lets connections go as long as more is held than may be, tells each, and counts their octets as passed over.
+pub(crate) fn let_go_past_limits<C: TwoWay>(
+    alloc: Global,
+    text: &mut String,
+    hearing: Hearing<'_>,
+    connections: &mut Connections<C>,
+    passed: u64,
+) -> Result<u64, NoMemory>
+    ensures { IfOk result (λ counted. (gone : List (Ends × C)) × (more : List ℕ)
+        × (string_bytes text.new ≡ string_bytes text.old ++ more)
+        × LetsGo C.held_in C.pending_in hearing.entry.task hearing.entry.packet hearing.entry.looks.limits
+        connections.old passed gone connections.new counted more) }
+{
+    let mut so_far = passed;
+    while connections.is_past(hearing.looks.limits) {
+        let Some(gone) = connections.let_go() else {
+            return Ok(so_far);
+        };
+        let told = put_let_go(alloc, text, hearing.task, hearing.packet, &gone);
+        so_far = so_far.saturating_add(gone.connection.octets_pending());
+        drop(gone);
+        told?;
+    }
+    Ok(so_far)
+}

@@ -1,0 +1,207 @@
+//! What is sent on a connection, and what of it is unread: the messages that it hands out are said, and what is lost.
+ghost use Rattle.std.specs.Prelude.{◌≡◌, ◌++◌, ℕ, List, IfOk, OnOk, option_copied};
+ghost use Rattle.std.specs.String.{string_bytes};
+ghost use Rattle.dm_trace_view.specs.Talks.{talk_of};
+ghost use Rattle.dm_trace_view.specs.Traces.{counted_sent, with_unread, unread_in, unread_before, unread_since};
+ghost use Rattle.dm_trace_view.specs.Traces.{lost_between, passed_text, secured_text, unread_text, SaysSent};
+
+use crate::counts::Counts;
+use crate::handed_messages::put_handed_messages;
+use crate::let_go_connections::let_go_past_limits;
+use crate::lost::{Lost, LostIn, put_lost};
+use crate::packet_context::{Hearing, Reckoned};
+use dm_connections::{Connections, Ends, Takes, TwoWay};
+use dm_dict::{Dictionary, NoMemory};
+use std::alloc::{AllocError, Global};
+
+/// How many octets of a connection aren't read: those that were passed over, and those of Diameter over DTLS.
+#[derive(Clone, Copy, Debug)]
+pub(crate) struct Unread {
+    pub(crate) passed: u64,
+    pub(crate) secured: u64,
+}
+
+/// No octets at all.
+const NONE_UNREAD: Unread = Unread {
+    passed: 0,
+    secured: 0,
+};
+
+impl Unread {
+    /// How many octets more aren't read than before, of either kind.
+    fn since(self, before: Unread) -> Unread
+        ensures { result ≡ unread_since before self }
+    {
+        Unread {
+            passed: self.passed.saturating_sub(before.passed),
+            secured: self.secured.saturating_sub(before.secured),
+        }
+    }
+}
+
+/// The counts with these octets more that aren't read.
+fn counts_with_unread(counts: Counts, unread: Unread) -> Counts
+    ensures { result ≡ with_unread unread counts }
+{
+    Counts {
+        passed: counts.passed.saturating_add(unread.passed),
+        secured: counts.secured.saturating_add(unread.secured),
+        ..counts
+    }
+}
+
+/// The counts with these octets more that aren't read, and one connection more where none was held.
+fn counts_with_sent(counts: Counts, held: Option<Ends>, unread: Unread) -> Counts
+    ensures { result ≡ counted_sent held unread counts }
+{
+    let counts = counts_with_unread(counts, unread);
+    match held {
+        Some(_) => counts,
+        None => Counts {
+            connections: counts.connections.saturating_add(1),
+            ..counts
+        },
+    }
+}
+
+/// How many octets of a connection aren't read so far; none of one that isn't there.
+fn unread_of<C: TwoWay>(connection: Option<&C>) -> Unread
+    ensures { result ≡ unread_in C.passed_in C.secured_in (option_copied connection.entry) }
+{
+    match connection {
+        Some(connection) => Unread {
+            passed: connection.octets_passed(),
+            secured: connection.octets_secured(),
+        },
+        None => NONE_UNREAD,
+    }
+}
+
+/// How many octets of a connection aren't read so far; none of one that isn't held.
+fn unread_so_far<C: TwoWay>(connections: &Connections<C>, held: Option<Ends>) -> Unread
+    ensures { result ≡ unread_before C.passed_in C.secured_in connections.now.held held }
+{
+    match held {
+        Some(ends) => unread_of(connections.get(ends)),
+        None => NONE_UNREAD,
+    }
+}
+
+/// Appends what was lost of what is sent between these ends.
+fn put_lost_between(
+    alloc: Global,
+    text: &mut String,
+    hearing: Hearing<'_>,
+    between: Ends,
+    lost: Lost,
+) -> Result<(), AllocError>
+    ensures { OnOk result (string_bytes text.new ≡ string_bytes text.old ++ lost_between hearing.entry between lost) }
+{
+    let told = LostIn {
+        packet: hearing.packet,
+        from: between.first,
+        to: between.second,
+        lost,
+    };
+    put_lost(alloc, text, hearing.task, told)
+}
+
+/// Appends how many octets were passed over from `before` to `after`, where some were.
+fn put_passed(
+    alloc: Global,
+    text: &mut String,
+    hearing: Hearing<'_>,
+    between: Ends,
+    before: u64,
+    after: u64,
+) -> Result<(), AllocError>
+    ensures { OnOk result (string_bytes text.new
+        ≡ string_bytes text.old ++ passed_text hearing.entry between before after) }
+{
+    if before >= after {
+        return Ok(());
+    }
+    put_lost_between(alloc, text, hearing, between, Lost::Passed(after - before))
+}
+
+/// Appends how many octets of Diameter over DTLS came, where they are the first of their connection.
+fn put_secured(
+    alloc: Global,
+    text: &mut String,
+    hearing: Hearing<'_>,
+    between: Ends,
+    before: u64,
+    after: u64,
+) -> Result<(), AllocError>
+    ensures { OnOk result (string_bytes text.new
+        ≡ string_bytes text.old ++ secured_text hearing.entry between before after) }
+{
+    if before != 0 || after == 0 {
+        return Ok(());
+    }
+    put_lost_between(alloc, text, hearing, between, Lost::Secured(after))
+}
+
+/// Appends how many octets were passed over from `before` to `after`, and the first ones of Diameter over DTLS.
+fn put_unread(
+    alloc: Global,
+    text: &mut String,
+    hearing: Hearing<'_>,
+    between: Ends,
+    before: Unread,
+    after: Unread,
+) -> Result<(), AllocError>
+    ensures { OnOk result (string_bytes text.new
+        ≡ string_bytes text.old ++ unread_text hearing.entry between before after) }
+{
+    put_passed(alloc, text, hearing, between, before.passed, after.passed)?;
+    put_secured(alloc, text, hearing, between, before.secured, after.secured)?;
+    Ok(())
+}
+
+/// Gives what is sent to its connection, where that is looked at, and says the messages that it hands out then, and
+/// what is lost.
+pub(crate) fn put_sent<S: Copy, C: Takes<S>>(
+    alloc: Global,
+    text: &mut String,
+    dictionary: &Dictionary,
+    hearing: Hearing<'_>,
+    connections: &mut Connections<C>,
+    sent: S,
+    before: Reckoned,
+) -> Result<Reckoned, NoMemory>
+    ensures { IfOk result (λ after. (more : List ℕ) × (string_bytes text.new ≡ string_bytes text.old ++ more)
+        × SaysSent (talk_of C.new_of C.passed_in C.secured_in C.held_in C.pending_in C.one_way C.with_way C.Hands
+        C.HandsNone)
+        dictionary.now hearing.entry (C.between sent) (C.BeginsExchange sent) (λ from to. C.TakesSent from sent to)
+        connections.old before connections.new after more) }
+{
+    let between = C::ends_of(sent);
+    let held = connections.find(between.first, between.second);
+    let ago = unread_so_far(connections, held);
+    let Some(ends) = connections.take(hearing.looks.choice, sent)? else {
+        return Ok(before);
+    };
+    let direction = hearing.direction(between, ends);
+    let saying = hearing.saying();
+    let numbered = put_handed_messages(
+        alloc,
+        text,
+        dictionary,
+        saying,
+        connections,
+        direction,
+        before.numbered,
+    )?;
+    let now = unread_so_far(connections, Some(ends));
+    put_unread(alloc, text, hearing, between, ago, now)?;
+    let counts = counts_with_sent(before.counts, held, now.since(ago));
+    let lost = let_go_past_limits(alloc, text, hearing, connections, counts.passed)?;
+    Ok(Reckoned {
+        numbered,
+        counts: Counts {
+            passed: lost,
+            ..counts
+        },
+    })
+}

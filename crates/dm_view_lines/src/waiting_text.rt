@@ -1,0 +1,81 @@
+//! What is said, gathered before it is written.
+ghost use Rattle.std.specs.Prelude.{◌≡◌, ◌++◌, [], IfErr, OnOk, OnErr};
+ghost use Rattle.std.specs.Io.KnownBytes.{Appends};
+ghost use Rattle.dm_view_lines.specs.Colours.{styled};
+ghost use Rattle.dm_view_lines.specs.Turns.{Gathers, Leaves, text_left, FailsToWrite, IsOfOutput};
+
+use crate::colours::coloured_text;
+use crate::message_reports::Task;
+use crate::put_fault::PutFault;
+use dm_io::write_text;
+use std::alloc::{AllocError, Global};
+use std::io::Write;
+
+/// So many octets are written though more input is at hand.
+const GATHERED: usize = 65_536;
+
+/// What is said of a message, how, and whether with colours for a terminal.
+#[derive(Clone, Copy, Debug, PartialEq, Eq)]
+pub struct Style {
+    /// What is said.
+    pub task: Task,
+    /// Whether with colours.
+    pub coloured: bool,
+}
+
+/// Writes what waits, and then nothing does. Where the writer fails a front of it was written.
+pub fn write_waiting<W: Write>(waits: &mut Vec<u8>, writer: &mut W) -> Result<(), PutFault>
+    ensures written { OnOk result (Appends (W.contents writer.old) (W.contents writer.new) waits.old.items) }
+    ensures none { OnOk result (waits.new.items ≡ []) }
+    ensures stopped { IfErr result (λ fault.
+        FailsToWrite fault (W.contents writer.old) (W.contents writer.new) waits.old.items) }
+{
+    match write_text(writer, waits.as_slice()) {
+        Ok(()) => {
+            waits.clear();
+            Ok(())
+        }
+        Err(error) => Err(PutFault::Write(error)),
+    }
+}
+
+/// Appends a text in its style to what waits; where that fails nothing of it.
+pub(crate) fn push_styled(
+    alloc: Global,
+    style: Style,
+    text: &[u8],
+    waits: &mut Vec<u8>,
+) -> Result<(), AllocError>
+    ensures put { OnOk result (waits.new.items ≡ waits.old.items ++ styled style.coloured style.task text.now) }
+    ensures kept { OnErr result (waits.new.items ≡ waits.old.items) }
+{
+    if !style.coloured {
+        return waits.extend_from_slice(text);
+    }
+    let made = coloured_text(alloc, style.task, text)?;
+    waits.extend_from_slice(made.as_slice())
+}
+
+/// Gathers a text in its style behind what waits, and writes all of it where that is enough (65,536 octets).
+///
+/// Where memory is wanted nothing of the text is gathered or written. Where the writer fails a front of all was
+/// written.
+pub fn push_text<W: Write>(
+    alloc: Global,
+    style: Style,
+    text: &[u8],
+    waits: &mut Vec<u8>,
+    writer: &mut W,
+) -> Result<(), PutFault>
+    ensures gathered { OnOk result (Gathers (W.contents writer.old) waits.old.items (W.contents writer.new)
+        waits.new.items (styled style.coloured style.task text.now)) }
+    ensures stopped { IfErr result (λ fault. Leaves fault (W.contents writer.old) waits.old.items
+        (W.contents writer.new) waits.new.items (text_left fault (styled style.coloured style.task text.now))) }
+    ensures fault { IfErr result IsOfOutput }
+{
+    push_styled(alloc, style, text, waits)?;
+    if waits.len() < GATHERED {
+        return Ok(());
+    }
+    write_waiting(waits, writer)
+}
