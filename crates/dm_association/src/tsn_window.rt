@@ -10,7 +10,7 @@ use crate::marks::ChunkMarks;
 use crate::message_around::{MessageExtent, message_around};
 use crate::tsn_state::TsnState;
 use crate::tsns::{
-    completed_message, drop_done_tsns, grow_tsns, is_missing_at, mark_extent_done, put_fragment,
+    completed_message, drop_done_tsns, grow_tsns, is_missing_at, mark_extent_done, set_fragment,
 };
 use std::alloc::{AllocError, Global};
 use std::collections::VecDeque;
@@ -150,7 +150,7 @@ impl TsnWindow {
     {
         let fragment = Fragment::new(alloc, own, octets)?;
         grow_tsns(&mut self.tsns, at + 1)?;
-        put_fragment(&mut self.tsns, at, fragment);
+        set_fragment(&mut self.tsns, at, fragment);
         self.waiting += octets.len();
         Ok(())
     }

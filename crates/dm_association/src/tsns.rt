@@ -95,7 +95,7 @@ pub(crate) fn grow_tsns(tsns: &mut VecDeque<TsnState>, size: usize) -> Result<()
 }
 
 /// Puts a fragment at a place.
-pub(crate) fn put_fragment(tsns: &mut VecDeque<TsnState>, at: usize, fragment: Fragment)
+pub(crate) fn set_fragment(tsns: &mut VecDeque<TsnState>, at: usize, fragment: Fragment)
     requires { at < length tsns.old.items }
     ensures { tsns.new.items ≡ slice_set tsns.old.items at (TsnState.Held fragment) }
 {

@@ -13,7 +13,7 @@ use crate::codes::RESULT_CODE;
 use crate::headers::header_of_answer;
 use crate::laws::built_is_spelled;
 use crate::sent_avps::{
-    avp_count_bound, push_capabilities, push_failed_avp, push_origin, push_origin_state_id,
+    capabilities_avp_bound, push_capabilities, push_failed_avp, push_origin, push_origin_state_id,
     state_id_in_answer, unsigned32_avp,
 };
 use dm_dict::NoMemory;
@@ -38,7 +38,7 @@ pub fn cea(
 {
     built_is_spelled();
     let header = header_of_answer(false, to);
-    let mut avps = Vec::with_capacity(alloc, avp_count_bound(node))?;
+    let mut avps = Vec::with_capacity(alloc, capabilities_avp_bound(node))?;
     avps.push(unsigned32_avp(alloc, RESULT_CODE, code)?)?;
     push_capabilities(alloc, &mut avps, node, failed)?;
     Ok(Message {

@@ -13,11 +13,11 @@ use crate::Node;
 use crate::applications::{is_own_or_relay_id, is_relay, sorted_ids, vendor_application_ids};
 use crate::codes::NO_INBAND_SECURITY;
 use crate::limits::MAX_IDS;
-use crate::received_avps::{is_vendor_specific, plain_application_id, security_id};
+use crate::received_avps::{is_vendor_specific_application_id, plain_application_id, security_id};
 use dm_wire::{AvpRef, AvpsRef, spells_avps};
 
 /// Whether the AVP is an Auth-Application-Id or Acct-Application-Id whose id is among the own ones, or is a relay's.
-fn plain_avp_tells_own_id(auth: &[u32], acct: &[u32], specific: &[u32], avp: AvpRef<'_>) -> bool
+fn plain_avp_tells_common_id(auth: &[u32], acct: &[u32], specific: &[u32], avp: AvpRef<'_>) -> bool
     requires auth { IsNonDecreasing auth.now }
     requires acct { IsNonDecreasing acct.now }
     requires specific { IsNonDecreasing specific.now }
@@ -30,7 +30,7 @@ fn plain_avp_tells_own_id(auth: &[u32], acct: &[u32], specific: &[u32], avp: Avp
 }
 
 /// Whether an id that the AVPs of a Vendor-Specific-Application-Id tell is among the own ones, or is a relay's.
-fn members_tell_own_id(auth: &[u32], acct: &[u32], specific: &[u32], avps: AvpsRef<'_>) -> bool
+fn members_tell_common_id(auth: &[u32], acct: &[u32], specific: &[u32], avps: AvpsRef<'_>) -> bool
     requires auth { IsNonDecreasing auth.now }
     requires acct { IsNonDecreasing acct.now }
     requires specific { IsNonDecreasing specific.now }
@@ -39,7 +39,7 @@ fn members_tell_own_id(auth: &[u32], acct: &[u32], specific: &[u32], avps: AvpsR
 {
     let mut left = avps;
     while let Some((avp, rest)) = left.split_first() {
-        if plain_avp_tells_own_id(auth, acct, specific, avp) {
+        if plain_avp_tells_common_id(auth, acct, specific, avp) {
             return true;
         }
         left = rest;
@@ -49,23 +49,23 @@ fn members_tell_own_id(auth: &[u32], acct: &[u32], specific: &[u32], avps: AvpsR
 
 /// Whether an id of an application that the AVP tells is among the own ones, or is a relay's.
 #[tactic(auto, using(crate::proofs::Ids::none_met, crate::proofs::Ids::some_met))]
-fn avp_tells_own_id(auth: &[u32], acct: &[u32], specific: &[u32], avp: AvpRef<'_>) -> bool
+fn avp_tells_common_id(auth: &[u32], acct: &[u32], specific: &[u32], avp: AvpRef<'_>) -> bool
     requires auth { IsNonDecreasing auth.now }
     requires acct { IsNonDecreasing acct.now }
     requires specific { IsNonDecreasing specific.now }
     ensures { result ≡ list_any (is_own auth.now acct.now specific.now) (application_ids (avp_of avp.entry)) }
 {
-    if !is_vendor_specific(avp) {
-        return plain_avp_tells_own_id(auth, acct, specific, avp);
+    if !is_vendor_specific_application_id(avp) {
+        return plain_avp_tells_common_id(auth, acct, specific, avp);
     }
     if !spells_avps(avp.bytes) {
         return false;
     }
-    members_tell_own_id(auth, acct, specific, AvpsRef::Spelled(avp.bytes))
+    members_tell_common_id(auth, acct, specific, AvpsRef::Spelled(avp.bytes))
 }
 
 /// Whether an id of an application that the AVPs tell is among the own ones, or is a relay's.
-fn avps_tell_own_id(auth: &[u32], acct: &[u32], specific: &[u32], avps: AvpsRef<'_>) -> bool
+fn avps_tell_common_id(auth: &[u32], acct: &[u32], specific: &[u32], avps: AvpsRef<'_>) -> bool
     requires auth { IsNonDecreasing auth.now }
     requires acct { IsNonDecreasing acct.now }
     requires specific { IsNonDecreasing specific.now }
@@ -74,7 +74,7 @@ fn avps_tell_own_id(auth: &[u32], acct: &[u32], specific: &[u32], avps: AvpsRef<
 {
     let mut left = avps;
     while let Some((avp, rest)) = left.split_first() {
-        if avp_tells_own_id(auth, acct, specific, avp) {
+        if avp_tells_common_id(auth, acct, specific, avp) {
             return true;
         }
         left = rest;
@@ -84,7 +84,7 @@ fn avps_tell_own_id(auth: &[u32], acct: &[u32], specific: &[u32], avps: AvpsRef<
 
 /// Whether AVPs name no Inband-Security-Id, or NO_INBAND_SECURITY among them.
 #[tactic(auto, using(crate::proofs::Securing::no_id, crate::proofs::Securing::other, crate::proofs::Securing::zero))]
-fn allow_no_inband_security(avps: AvpsRef<'_>) -> bool
+fn allows_unsecured_connection(avps: AvpsRef<'_>) -> bool
     ensures { (l : List Avp) → Lists avps.entry l → result ≡ are_secure (flat_map security_ids l) }
 {
     let mut named = false;
@@ -129,13 +129,13 @@ impl CapsRef<'_> {
         let auth = sorted_ids(&mut auth, node.auth.as_slice());
         let acct = sorted_ids(&mut acct, node.acct.as_slice());
         let specific = sorted_ids(&mut specific, vendor_application_ids(node));
-        avps_tell_own_id(auth, acct, specific, AvpsRef::Spelled(self.rest))
+        avps_tell_common_id(auth, acct, specific, AvpsRef::Spelled(self.rest))
     }
 
     /// Whether the other side takes a connection without security (RFC 6733, 6.10). It never answers want of memory.
     pub fn secure(&self) -> bool
         ensures { (caps : Caps) → ShowsCaps self.now caps → result ≡ is_secure caps }
     {
-        allow_no_inband_security(AvpsRef::Spelled(self.rest))
+        allows_unsecured_connection(AvpsRef::Spelled(self.rest))
     }
 }

@@ -13,17 +13,9 @@ use crate::BaseCommand;
 use crate::caps_ref::CapsRef;
 use crate::codes::{DISCONNECT_CAUSE, ORIGIN_HOST, ORIGIN_REALM, RESULT_CODE};
 use crate::kind_ref::KindRef;
-use crate::received_avps::{first_data_of_code, first_number_or_zero};
+use crate::received_avps::{first_data_of_code, first_number_or_zero, spelled_avps_are_members};
 use dm_dict::{Dictionary, Judged};
-use dm_wire::laws::members_spell;
 use dm_wire::{AvpsRef, MessageRef};
-
-/// The octets that spell AVPs have them as their members.
-pub(crate) fn spells_members(octets: &[u8])
-    ensures { (l : List Avp) → SpellsList l octets.now → members octets.now ≡ Some l }
-{
-    members_spell();
-}
 
 /// The kind of a message of this command and R bit with the AVPs in these octets, its parts where they lie.
 fn borrowed_kind<'a>(command: BaseCommand, request: bool, rest: &'a [u8]) -> KindRef<'a>
@@ -71,7 +63,7 @@ pub fn view<'a>(
     };
     match dictionary.judge(message) {
         Judged::Good => {
-            spells_members(message.rest);
+            spelled_avps_are_members(message.rest);
             Ok(borrowed_kind(command, header.request, message.rest))
         }
         bad => Err(bad),

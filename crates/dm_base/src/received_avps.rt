@@ -1,13 +1,16 @@
-//! What the AVPs of a message say (RFC 6733, 5.3 and 5.4.3).
-ghost use Rattle.std.specs.Prelude.{◌≡◌, ◌≢◌, ◌++◌, List, [], OnOk, IfOk, OnErr};
+//! What the AVPs of a message say: data and numbers by code, and ids (RFC 6733, 5.3 and 5.4.3).
+ghost use Rattle.std.specs.Prelude.{◌≡◌, ◌≢◌, ◌++◌, List, [], Some, OnOk, IfOk, OnErr};
 ghost use Rattle.std.specs.List.{flat_map};
 ghost use Rattle.std.specs.Option.{option_to_list};
 ghost use Rattle.dm_wire.specs.declared.avp.Avp.{Avp};
 ghost use Rattle.dm_wire.specs.Borrowed.{avp_of};
 ghost use Rattle.dm_wire.specs.Borrowed.{Lists};
+ghost use Rattle.dm_wire.specs.Members.{members};
+ghost use Rattle.dm_wire.specs.Spelling.{SpellsList};
 ghost use Rattle.dm_base.specs.Codes.{vendor_specific_application_id};
 ghost use Rattle.dm_base.specs.Kinds.{is_plain, data_at, number_in, number_at, plain_id, plain_ids};
 ghost use Rattle.dm_base.specs.Kinds.{security_id, security_ids, application_ids, caps_of};
+ghost use Rattle.dm_base.specs.Senders.{number_told};
 
 use crate::codes::{
     ACCT_APPLICATION_ID, AUTH_APPLICATION_ID, INBAND_SECURITY_ID, ORIGIN_HOST, ORIGIN_REALM,
@@ -16,8 +19,16 @@ use crate::codes::{
 use crate::{Caps, IdList};
 use byteorder::{BigEndian, ByteOrder};
 use dm_dict::NoMemory;
+use dm_wire::laws::members_spell;
 use dm_wire::{AvpRef, AvpsRef, Octets, spells_avps};
 use std::alloc::Global;
+
+/// The octets that spell AVPs have them as their members.
+pub(crate) fn spelled_avps_are_members(octets: &[u8])
+    ensures { (l : List Avp) → SpellsList l octets.now → members octets.now ≡ Some l }
+{
+    members_spell();
+}
 
 /// Whether the AVP has this code and no vendor.
 pub(crate) fn has_code_and_no_vendor(avp: AvpRef<'_>, code: u32) -> bool
@@ -58,6 +69,13 @@ pub(crate) fn first_number_or_zero(avps: AvpsRef<'_>, code: u32) -> u32
     number_of_four_octets(first_data_of_code(avps, code)).unwrap_or(0)
 }
 
+/// The number of the first AVP of this code; None where there is none, or it has not four octets.
+pub(crate) fn first_number_of_code(avps: AvpsRef<'_>, code: u32) -> Option<u32>
+    ensures { (l : List Avp) → Lists avps.entry l → result ≡ number_told code l }
+{
+    number_of_four_octets(first_data_of_code(avps, code))
+}
+
 /// The id that an Auth-Application-Id or Acct-Application-Id tells. None for any other AVP, or where it has not four
 /// octets.
 pub(crate) fn plain_application_id(avp: AvpRef<'_>) -> Option<u32>
@@ -84,7 +102,7 @@ pub(crate) fn security_id(avp: AvpRef<'_>) -> Option<u32>
 }
 
 /// Whether the AVP is a Vendor-Specific-Application-Id.
-pub(crate) fn is_vendor_specific(avp: AvpRef<'_>) -> bool
+pub(crate) fn is_vendor_specific_application_id(avp: AvpRef<'_>) -> bool
     ensures { result ≡ is_plain vendor_specific_application_id (avp_of avp.entry) }
 {
     has_code_and_no_vendor(avp, VENDOR_SPECIFIC_APPLICATION_ID)
@@ -121,7 +139,7 @@ fn push_ids_of_avp(ids: &mut Vec<u32>, avp: AvpRef<'_>) -> Result<(), NoMemory>
     ensures put { OnOk result (ids.new.items ≡ ids.old.items ++ application_ids (avp_of avp.entry)) }
     ensures memory { OnErr result (application_ids (avp_of avp.entry) ≢ []) }
 {
-    if !is_vendor_specific(avp) {
+    if !is_vendor_specific_application_id(avp) {
         return push_id_if_some(ids, plain_application_id(avp));
     }
     if !spells_avps(avp.bytes) {

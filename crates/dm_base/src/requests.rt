@@ -9,7 +9,7 @@ use crate::codes::{CAPABILITIES_EXCHANGE, DEVICE_WATCHDOG, DISCONNECT_CAUSE, DIS
 use crate::headers::header_of_request;
 use crate::laws::built_is_spelled;
 use crate::sent_avps::{
-    avp_count_bound, own_state_id, push_capabilities, push_origin, push_origin_state_id,
+    capabilities_avp_bound, own_state_id, push_capabilities, push_origin, push_origin_state_id,
     unsigned32_avp,
 };
 use crate::{Cause, Node};
@@ -28,7 +28,7 @@ pub fn cer(alloc: Global, node: &Node, id: u32) -> Result<Message, NoMemory>
 {
     built_is_spelled();
     let header = header_of_request(CAPABILITIES_EXCHANGE, id);
-    let mut avps = Vec::with_capacity(alloc, avp_count_bound(node))?;
+    let mut avps = Vec::with_capacity(alloc, capabilities_avp_bound(node))?;
     push_capabilities(alloc, &mut avps, node, None)?;
     Ok(Message {
         header,

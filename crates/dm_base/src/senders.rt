@@ -12,10 +12,9 @@ use crate::codes::{
     CAPABILITIES_EXCHANGE, DISCONNECT_CAUSE, DISCONNECT_PEER, FIRMWARE_REVISION, ORIGIN_HOST,
     ORIGIN_REALM, ORIGIN_STATE_ID, PRODUCT_NAME, SUPPORTED_VENDOR_ID, VENDOR_ID,
 };
-use crate::message_kind_ref::spells_members;
 use crate::received_avps::{
-    first_data_of_code, has_code_and_no_vendor, number_of_four_octets, push_id_if_some,
-    read_application_ids,
+    first_data_of_code, first_number_of_code, has_code_and_no_vendor, number_of_four_octets,
+    push_id_if_some, read_application_ids, spelled_avps_are_members,
 };
 use crate::{IdList, SenderRef};
 use dm_dict::NoMemory;
@@ -31,13 +30,6 @@ fn number_if_of_code(avp: AvpRef<'_>, code: u32) -> Option<u32>
     } else {
         None
     }
-}
-
-/// The number of the first AVP of this code; None where there is none, or it has not four octets.
-fn first_number_of_code(avps: AvpsRef<'_>, code: u32) -> Option<u32>
-    ensures { (l : List Avp) → Lists avps.entry l → result ≡ number_told code l }
-{
-    number_of_four_octets(first_data_of_code(avps, code))
 }
 
 /// The numbers of all AVPs of this code, appended.
@@ -138,7 +130,7 @@ pub fn sender<'a>(message: &MessageRef<'a>) -> Option<SenderRef<'a>>
     if message.header.command != CAPABILITIES_EXCHANGE {
         return None;
     }
-    spells_members(message.rest);
+    spelled_avps_are_members(message.rest);
     Some(SenderRef { rest: message.rest })
 }
 
@@ -151,7 +143,7 @@ pub fn disconnect_cause(message: &MessageRef<'_>) -> Option<i32>
     if message.header.command != DISCONNECT_PEER || !message.header.request {
         return None;
     }
-    spells_members(message.rest);
+    spelled_avps_are_members(message.rest);
     match first_number_of_code(AvpsRef::Spelled(message.rest), DISCONNECT_CAUSE) {
         Some(number) => Some(number.cast_signed()),
         None => None,

@@ -192,7 +192,7 @@ fn push_firmware_revision(
 }
 
 /// The code of the AVP that tells the id of an application of a vendor (RFC 6733, 6.11).
-fn id_code(accounting: bool) -> u32
+fn application_id_code(accounting: bool) -> u32
     ensures { result ≡ id_code accounting }
 {
     if accounting {
@@ -227,7 +227,7 @@ fn octets_of_vendor_application(
     push_avp_or_no_memory(&mut octets, borrowed_avp(VENDOR_ID, &vendor))?;
     push_avp_or_no_memory(
         &mut octets,
-        borrowed_avp(id_code(application.accounting), &id),
+        borrowed_avp(application_id_code(application.accounting), &id),
     )?;
     Ok(octets)
 }
@@ -255,7 +255,7 @@ fn push_vendor_applications(
     Ok(())
 }
 
-/// No fewer AVPs than the applications of vendors and the supported vendors take.
+/// How many AVPs the applications of vendors and the supported vendors take: at most 512.
 #[tactic(auto, using(crate::proofs::Fitting::few_applications, crate::proofs::Fitting::few_ids))]
 fn extras_avp_bound(node: &Node) -> usize
     ensures { result ≤ 512 }
@@ -266,10 +266,10 @@ fn extras_avp_bound(node: &Node) -> usize
     }
 }
 
-/// No fewer AVPs than a capabilities exchange has: 9, and one for each address, id, application of a vendor and
-/// supported vendor.
+/// How many AVPs a capabilities exchange is given room for: 9, and one for each address, id, application of a vendor
+/// and supported vendor. No clause says that they are enough: a list without room grows.
 #[tactic(auto, using(crate::proofs::Fitting::few_addresses, crate::proofs::Fitting::few_ids))]
-pub(crate) fn avp_count_bound(node: &Node) -> usize {
+pub(crate) fn capabilities_avp_bound(node: &Node) -> usize {
     let addresses = node.addresses.as_slice().len();
     let auth = node.auth.as_slice().len();
     let acct = node.acct.as_slice().len();
@@ -310,7 +310,7 @@ fn push_supported_vendors(alloc: Global, avps: &mut Vec<Avp>, node: &Node) -> Re
 }
 
 /// Vendor-Specific-Application-Ids and Firmware-Revision, appended.
-fn push_specific_and_firmware(
+fn push_vendor_applications_and_firmware(
     alloc: Global,
     avps: &mut Vec<Avp>,
     node: &Node,
@@ -335,7 +335,7 @@ fn push_applications_and_firmware(
 {
     push_number_avps(alloc, avps, AUTH_APPLICATION_ID, node.auth.as_slice())?;
     push_number_avps(alloc, avps, ACCT_APPLICATION_ID, node.acct.as_slice())?;
-    push_specific_and_firmware(alloc, avps, node)?;
+    push_vendor_applications_and_firmware(alloc, avps, node)?;
     Ok(())
 }
 

@@ -66,7 +66,7 @@ fn push_success_and_origin(out: &mut Vec<u8>, node: &Node) -> Result<(), WireFau
 }
 
 /// The octets that all AVPs of the answer take.
-fn answer_avps_size(node: &Node, state: Option<u32>) -> usize
+fn success_avps_size(node: &Node, state: Option<u32>) -> usize
     ensures size { result ≡ length (canonical_list (result_avp success ∷ origin node.now (state_avps state))) }
     ensures small { result ≤ 552 }
 {
@@ -74,7 +74,7 @@ fn answer_avps_size(node: &Node, state: Option<u32>) -> usize
 }
 
 /// All AVPs of the answer, appended.
-fn push_answer_avps(out: &mut Vec<u8>, node: &Node, state: Option<u32>) -> Result<(), WireFault>
+fn push_success_avps(out: &mut Vec<u8>, node: &Node, state: Option<u32>) -> Result<(), WireFault>
     ensures put { OnOk result (out.new.items ≡ out.old.items
         ++ canonical_list (result_avp success ∷ origin node.now (state_avps state))) }
     ensures memory { IfErr result (λ fault. fault ≡ WireFault.NoMemory) }
@@ -99,12 +99,12 @@ pub fn success_octets(alloc: Global, node: &Node, to: &Header) -> Result<Vec<u8>
     built_is_spelled();
     canonical_spells();
     let state = state_id_in_answer(node, to.command);
-    let size = HEADER_LEN as usize + answer_avps_size(node, state);
+    let size = HEADER_LEN as usize + success_avps_size(node, state);
     let Some(header) = header_octets(header_of_answer(false, to), size as u32) else {
         return Err(WireFault::TooLong);
     };
     let mut octets = Vec::with_capacity(alloc, size)?;
     octets.extend_from_slice(&header)?;
-    push_answer_avps(&mut octets, node, state)?;
+    push_success_avps(&mut octets, node, state)?;
     Ok(octets)
 }

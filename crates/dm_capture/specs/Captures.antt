@@ -23,7 +23,7 @@ pub record Progress : Type 0 where
   pub packets : ℕ
   pub fault : Option CaptureFault
 
--- nothing was with_piece
+-- no octets were fed
 abbrev pub new_progress : Progress
 new_progress = record { octets = []; offset = 0; layout = Start; interfaces = []; packets = 0; fault = None }
 

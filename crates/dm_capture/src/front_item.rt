@@ -7,7 +7,7 @@ use crate::interface::Interface;
 use crate::order::Order;
 use crate::packet::Record;
 use crate::pcap::{PcapForm, file_header_at, record_at};
-use crate::section::block_at;
+use crate::section::item_in_section;
 
 /// What is known of the file so far, but for a section's interfaces.
 #[derive(Clone, Copy, Debug)]
@@ -57,6 +57,6 @@ pub(crate) fn item_at_front(
     match layout {
         Layout::Start => file_header_at(octets),
         Layout::Pcap(form) => record_at(form, octets),
-        Layout::Pcapng(order) => block_at(order, interfaces, octets),
+        Layout::Pcapng(order) => item_in_section(order, interfaces, octets),
     }
 }

@@ -9,7 +9,7 @@ ghost use Rattle.dm_capture.specs.Captures.{EndsWith, capped};
 ghost use Rattle.dm_capture.specs.Items.{IsItem, IsPart, HasFrontFault};
 ghost use Rattle.dm_capture.specs.Packets.{captured_of, packet_of};
 
-use crate::buffer::drop_taken;
+use crate::buffer::compact_if_mostly_taken;
 use crate::fault::{CaptureFault, FaultKind};
 use crate::front_item::{Found, Holds, Layout, item_at_front};
 use crate::interface::Interface;
@@ -71,7 +71,7 @@ impl CaptureReader {
         ensures fed { OnOk result (self.new ≡ record self.old { octets = self.old.octets ++ piece.now }) }
         ensures err { OnErr result (self.new ≡ self.old) }
     {
-        self.taken = drop_taken(&mut self.buffer, self.taken);
+        self.taken = compact_if_mostly_taken(&mut self.buffer, self.taken);
         self.buffer.extend_from_slice(piece)
     }
 

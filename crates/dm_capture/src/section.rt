@@ -65,13 +65,13 @@ pub(crate) fn section_at(octets: &[u8]) -> Result<Option<Found>, FaultKind>
         return Ok(None);
     }
     match order_of_section(octets) {
-        Some(order) => section_in_order(order, octets),
+        Some(order) => section_of_order(order, octets),
         None => Err(FaultKind::NoCapture),
     }
 }
 
 /// The section's header at the front, whose order is known; `None` where it isn't whole yet.
-fn section_in_order(order: Order, octets: &[u8]) -> Result<Option<Found>, FaultKind>
+fn section_of_order(order: Order, octets: &[u8]) -> Result<Option<Found>, FaultKind>
     requires least { 12 ≤ length octets.now }
     requires section { ordered_number Order.Big 4 octets.now ≡ section_type }
     requires ordered { section_order octets.now ≡ Some order }
@@ -99,7 +99,7 @@ fn section_in_order(order: Order, octets: &[u8]) -> Result<Option<Found>, FaultK
 }
 
 /// The block at the front of what is left in a section, or the header of the next one; `None` where it isn't whole yet.
-pub(crate) fn block_at(
+pub(crate) fn item_in_section(
     order: Order,
     interfaces: &[Interface],
     octets: &[u8],
@@ -134,7 +134,7 @@ fn block_within_section(
     ensures fault { IfErr result (HasBlockFault order interfaces.now octets.now) }
 {
     match whole_block_size(order, octets) {
-        Ok(Some(size)) => match read_block(order, interfaces, &octets[..size]) {
+        Ok(Some(size)) => match read_section_block(order, interfaces, &octets[..size]) {
             Ok(holds) => Ok(Some(Found { size, holds })),
             Err(fault) => Err(fault),
         },
@@ -144,7 +144,11 @@ fn block_within_section(
 }
 
 /// What a whole block within a section says, or what is wrong with it.
-fn read_block(order: Order, interfaces: &[Interface], block: &[u8]) -> Result<Holds, FaultKind>
+fn read_section_block(
+    order: Order,
+    interfaces: &[Interface],
+    block: &[u8],
+) -> Result<Holds, FaultKind>
     requires { 12 ≤ length block.now }
     ensures holds { IfOk result (BlockHolds order interfaces.now block.now) }
     ensures fault { IfErr result (HasContentFault order interfaces.now block.now) }

@@ -78,7 +78,7 @@ fn feed_piece<R: BufRead>(reader: &mut R, capture: &mut CaptureReader) -> Result
 {
     let octets = match reader.fill_buf() {
         Ok(octets) => octets,
-        Err(error) => return answer_read_error(capture, error),
+        Err(error) => return fault_unless_interrupted(capture, error),
     };
     let size = octets.len();
     if capture.feed(octets).is_err() {
@@ -89,7 +89,7 @@ fn feed_piece<R: BufRead>(reader: &mut R, capture: &mut CaptureReader) -> Result
 }
 
 /// What is answered where a read fails: false where it was interrupted, so that it is made again, else the fault.
-fn answer_read_error(capture: &CaptureReader, error: Error) -> Result<bool, StreamFault>
+fn fault_unless_interrupted(capture: &CaptureReader, error: Error) -> Result<bool, StreamFault>
     ensures again { IfOk result (λ done. done ≡ false) }
     ensures none { IfErr result (IsNoneRead capture.now) }
 {

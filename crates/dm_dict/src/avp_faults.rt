@@ -14,12 +14,12 @@ ghost use Rattle.dm_dict.specs.Rules.{definition};
 use crate::avps::is_failed_avp;
 use crate::codes::{AVP_NOT_ALLOWED, AVP_UNSUPPORTED, INVALID_AVP_LENGTH, INVALID_AVP_VALUE};
 use crate::data::data_fault;
+use crate::entry_faults::push_entries_faults;
 use crate::fault::Fault;
 use crate::findings::Findings;
 use crate::judged::Failed;
 use crate::linked::{Linked, LinkedAvp, LinkedRule};
-use crate::listing_entries::list_entries;
-use crate::occurrences::count_occurrence;
+use crate::occurrences::count_group_occurrence;
 use crate::path::{Path, Step};
 use crate::rules::{allows, look_up_by_marks};
 use dm_tables::{AvpDef, Tables};
@@ -28,9 +28,9 @@ use dm_wire::{AvpRef, AvpsRef, spells_avps};
 use indexmap::IndexMap;
 use std::alloc::Global;
 
-/// Lists what is wrong with an AVP of this definition, but for its members.
+/// Adds what is wrong with an AVP of this definition, but for its members.
 #[inline(always)]
-fn list_own_faults<'a>(
+fn add_own_faults<'a>(
     findings: &mut Findings<'a>,
     path: Option<&Path>,
     def: Option<&AvpDef>,
@@ -64,8 +64,8 @@ fn list_own_faults<'a>(
     }
 }
 
-/// Lists the faults of the entries of the rule.
-fn locate_entries<'a>(
+/// Adds the faults of the entries of the rule.
+fn add_entries_faults<'a>(
     alloc: Global,
     findings: &mut Findings<'a>,
     path: Option<&Path>,
@@ -81,18 +81,18 @@ fn locate_entries<'a>(
         (map here (flat_map (entry_faults tables.now.avps.items rule.entry.entries.now l) rule.entry.entries.now))) }
 {
     let Some(path) = path else {
-        return list_entries(alloc, tables, rule, list, &mut findings.faults);
+        return push_entries_faults(alloc, tables, rule, list, &mut findings.faults);
     };
     let mut faults = Vec::new(alloc);
-    list_entries(alloc, tables, rule, list, &mut faults)?;
+    push_entries_faults(alloc, tables, rule, list, &mut faults)?;
     findings.add_faults(Some(path), faults.as_slice())?;
     Ok(())
 }
 
-/// Lists the faults of the AVP that is the nth of its code and vendor, whose definition has this place, inside which so
+/// Adds the faults of the AVP that is the nth of its code and vendor, whose definition has this place, inside which so
 /// many groups may stand.
 #[cycle(locating)]
-fn locate_avp<'a>(
+fn add_avp_faults<'a>(
     alloc: Global,
     findings: &mut Findings<'a>,
     path: Option<&Path>,
@@ -113,9 +113,9 @@ fn locate_avp<'a>(
         (avp_of avp.entry) (definition dictionary.now.tables.avps.items (avp_of avp.entry)))) }
 {
     let Some(LinkedAvp { def, links }) = dictionary.avp_at(place) else {
-        return list_own_faults(findings, path, None, allowed, avp);
+        return add_own_faults(findings, path, None, allowed, avp);
     };
-    list_own_faults(findings, path, Some(def), allowed, avp)?;
+    add_own_faults(findings, path, Some(def), allowed, avp)?;
     if is_failed_avp(avp) {
         return Ok(());
     }
@@ -124,15 +124,15 @@ fn locate_avp<'a>(
             entries: &def.rule,
             links,
         };
-        return locate_group(alloc, findings, path, nth, dictionary, rule, avp, depth);
+        return add_group_faults(alloc, findings, path, nth, dictionary, rule, avp, depth);
     }
     Ok(())
 }
 
-/// Lists the faults of the Grouped AVP of this rule that is the nth of its code and vendor, where so many groups may
+/// Adds the faults of the Grouped AVP of this rule that is the nth of its code and vendor, where so many groups may
 /// stand inside each other.
 #[cycle(locating)]
-fn locate_group<'a>(
+fn add_group_faults<'a>(
     alloc: Global,
     findings: &mut Findings<'a>,
     path: Option<&Path>,
@@ -160,14 +160,14 @@ fn locate_group<'a>(
     }
     let list = AvpsRef::Spelled(avp.bytes);
     let Some(path) = path else {
-        return locate_list(alloc, findings, None, dictionary, rule, list, depth - 1);
+        return add_faults_under_rule(alloc, findings, None, dictionary, rule, list, depth - 1);
     };
     let inside = path.inside(Step {
         nth,
         code: avp.code,
         vendor: avp.vendor,
     });
-    locate_list(
+    add_faults_under_rule(
         alloc,
         findings,
         Some(&inside),
@@ -179,9 +179,9 @@ fn locate_group<'a>(
     Ok(())
 }
 
-/// Lists the faults of each AVP under the rule, where so many groups may stand inside each other.
+/// Adds the faults of each AVP under the rule, where so many groups may stand inside each other.
 #[cycle(locating)]
-fn locate_avps<'a>(
+fn add_each_avp_faults<'a>(
     alloc: Global,
     findings: &mut Findings<'a>,
     path: Option<&Path>,
@@ -206,8 +206,8 @@ fn locate_avps<'a>(
     while let Some((avp, rest)) = left.split_first() {
         let (place, entry) = look_up_by_marks(dictionary, rule, avp);
         let allowed = allows(rule.entries, entry);
-        let nth = count_occurrence(numbers, path, dictionary, place, avp)?;
-        locate_avp(
+        let nth = count_group_occurrence(numbers, path, dictionary, place, avp)?;
+        add_avp_faults(
             alloc, findings, path, nth, dictionary, place, allowed, avp, depth,
         )?;
         left = rest;
@@ -215,9 +215,9 @@ fn locate_avps<'a>(
     Ok(())
 }
 
-/// Lists the faults of AVPs under the rule, where so many groups may stand inside each other.
+/// Adds the faults of AVPs under the rule, where so many groups may stand inside each other.
 #[cycle(locating)]
-pub(crate) fn locate_list<'a>(
+pub(crate) fn add_faults_under_rule<'a>(
     alloc: Global,
     findings: &mut Findings<'a>,
     path: Option<&Path>,
@@ -235,7 +235,7 @@ pub(crate) fn locate_list<'a>(
         (list_located depth dictionary.now.tables.avps.items rule.entry.entries.now l)) }
 {
     let mut numbers = IndexMap::new(alloc);
-    let done = locate_avps(
+    let done = add_each_avp_faults(
         alloc,
         findings,
         path,
@@ -247,5 +247,5 @@ pub(crate) fn locate_list<'a>(
     );
     drop(numbers);
     done?;
-    locate_entries(alloc, findings, path, &dictionary.tables, rule, list)
+    add_entries_faults(alloc, findings, path, &dictionary.tables, rule, list)
 }

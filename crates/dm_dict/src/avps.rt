@@ -5,7 +5,7 @@ ghost use Rattle.dm_wire.specs.declared.avp.Avp.{Avp};
 ghost use Rattle.dm_dict.specs.Apart.{IsFit};
 ghost use Rattle.dm_dict.specs.Linked.{IsLinked, IsRule};
 ghost use Rattle.dm_wire.specs.Borrowed.{avp_of, Lists};
-ghost use Rattle.dm_dict.specs.Faults.{is_failed_avp, is_left_out, avp_faults, group_faults, list_faults, first};
+ghost use Rattle.dm_dict.specs.Faults.{is_failed_avp, avp_faults, group_faults, list_faults, first};
 ghost use Rattle.dm_dict.specs.Found.{finds_missing};
 ghost use Rattle.dm_dict.specs.Judgement.{shown};
 ghost use Rattle.dm_dict.specs.Passed.{IsGoodBut};
@@ -15,12 +15,11 @@ use crate::codes::{
     AVP_NOT_ALLOWED, AVP_UNSUPPORTED, FAILED_AVP, INVALID_AVP_LENGTH, INVALID_AVP_VALUE,
 };
 use crate::counts::{MANY_ENTRIES, count_at_entry, counters, long_rule_counters};
+use crate::data::is_left_out;
 use crate::judged::{Failed, Judged};
 use crate::linked::{Linked, LinkedAvp, LinkedRule};
 use crate::rules::{allows, look_up_by_marks};
 use crate::windows::judge_entries;
-use byteorder::{BigEndian, ByteOrder};
-use dm_tables::AvpDef;
 use dm_value::{AvpType, ValueFault, value_fault};
 use dm_wire::{AvpRef, AvpsRef, spells_avps};
 use std::alloc::Global;
@@ -30,18 +29,6 @@ pub(crate) fn is_failed_avp(avp: AvpRef<'_>) -> bool
     ensures { result ≡ is_failed_avp (avp_of avp.entry) }
 {
     avp.code == FAILED_AVP && avp.vendor == None
-}
-
-/// Whether the octets are four, and a value that the list of an Enumerated leaves out.
-pub(crate) fn is_left_out(def: &AvpDef, octets: &[u8]) -> bool
-    ensures { result ≡ is_left_out def.now.kind def.now.values octets.now }
-{
-    match def.kind {
-        AvpType::Enumerated => {
-            octets.len() == 4 && def.values.leaves_out(BigEndian::read_i32(octets))
-        }
-        _ => false,
-    }
 }
 
 /// The first fault of an AVP, whose definition has this place, inside which so many groups may stand.
@@ -137,11 +124,11 @@ fn judge_group<'a>(
     judge_list(dictionary, rule, list, depth - 1, alloc)
 }
 
-/// The first fault of a list of AVPs under the rule, of which those before these are good and counted, by
-/// these counters for the first of its entries.
+/// The first fault of a list of AVPs under the rule, of which those before `from` are good, and counted by these
+/// counters for the first of its entries.
 #[cycle(judge)]
 #[inline(never)]
-pub(crate) fn judge_counted<'a>(
+pub(crate) fn judge_list_from<'a>(
     dictionary: &Linked,
     rule: LinkedRule<'_>,
     list: AvpsRef<'a>,
@@ -191,7 +178,7 @@ fn judge_list_on_stack<'a>(
     ensures missing { finds_missing result ≡ false }
 {
     let mut counts = counters::<MANY_ENTRIES>();
-    judge_counted(dictionary, rule, list, list, depth, alloc, &mut counts)
+    judge_list_from(dictionary, rule, list, list, depth, alloc, &mut counts)
 }
 
 /// The first fault of a list of AVPs under the rule, where so many groups may stand inside each other; by a counter for
@@ -215,7 +202,7 @@ fn judge_list<'a>(
         return judge_list_on_stack(dictionary, rule, list, depth, alloc);
     };
     let room = counts.as_mut_slice();
-    let judged = judge_counted(dictionary, rule, list, list, depth, alloc, room);
+    let judged = judge_list_from(dictionary, rule, list, list, depth, alloc, room);
     drop(counts);
     judged
 }

@@ -68,7 +68,7 @@ pub(crate) fn count_at_entry(counts: &mut [u16], from: usize, at: Option<usize>)
 }
 
 /// How many AVPs of the list each of the entries from `from` on counts that have counters, up to 65535.
-pub(crate) fn count_avps_from(
+pub(crate) fn count_at_entries_from(
     tables: &Tables,
     rule: LinkedRule<'_>,
     from: usize,

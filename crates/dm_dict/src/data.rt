@@ -6,15 +6,26 @@ ghost use Rattle.dm_value.specs.declared.avp_type.AvpType.TheVariants.{Enumerate
 ghost use Rattle.dm_tables.specs.declared.values.EnumValue.{EnumValue};
 ghost use Rattle.dm_value.specs.Flaws.{flaw};
 ghost use Rattle.dm_dict.specs.Codes.{missing_avp};
-ghost use Rattle.dm_dict.specs.Faults.{Fault as AFault, data_faults};
+ghost use Rattle.dm_dict.specs.Faults.{Fault as AFault, is_left_out, data_faults};
 ghost use Rattle.dm_dict.specs.Listing.{coded};
 
-use crate::avps::is_left_out;
 use crate::codes::{INVALID_AVP_LENGTH, INVALID_AVP_VALUE};
 use crate::octet_ranges::are_between;
 use byteorder::{BigEndian, ByteOrder};
 use dm_tables::AvpDef;
 use dm_value::{AvpType, ValueFault, value_fault};
+
+/// Whether the octets are four, and a value that the list of an Enumerated leaves out.
+pub(crate) fn is_left_out(def: &AvpDef, octets: &[u8]) -> bool
+    ensures { result ≡ is_left_out def.now.kind def.now.values octets.now }
+{
+    match def.kind {
+        AvpType::Enumerated => {
+            octets.len() == 4 && def.values.leaves_out(BigEndian::read_i32(octets))
+        }
+        _ => false,
+    }
+}
 
 /// The Result-Code for data of this definition that is no group's, where something is wrong with it.
 pub(crate) fn data_fault(def: &AvpDef, octets: &[u8]) -> Option<u32>

@@ -25,7 +25,7 @@ use dm_value::least_len;
 use dm_wire::AvpsRef;
 
 /// The example of an AVP that the entry names; `AVP` has none.
-pub(crate) fn example(tables: &Tables, entry: &Entry) -> Failed<'static>
+pub(crate) fn missing_avp_example(tables: &Tables, entry: &Entry) -> Failed<'static>
     requires { IsTables tables.now }
     ensures example { failed_of result ≡ example tables.now.avps.items entry.now }
     ensures made { is_found result ≡ false }
@@ -73,7 +73,7 @@ fn first_past_max<'a>(
 }
 
 /// Whether the entry at the place, which has this counter, counts more AVPs of the list than `number`.
-fn counts_above(
+fn counts_more_than(
     tables: &Tables,
     rule: LinkedRule<'_>,
     at: usize,
@@ -117,8 +117,8 @@ fn judge_bounds<'a>(
     ensures missing { finds_missing result ≡ false }
 {
     let entry = &rule.entries.as_slice()[at];
-    if entry.min > 0 && !counts_above(tables, rule, at, entry.min - 1, counter, list) {
-        let failed = example(tables, entry);
+    if entry.min > 0 && !counts_more_than(tables, rule, at, entry.min - 1, counter, list) {
+        let failed = missing_avp_example(tables, entry);
         return Judged::Bad {
             code: MISSING_AVP,
             failed,
@@ -126,7 +126,7 @@ fn judge_bounds<'a>(
     }
     match entry.max {
         Some(max) => {
-            if max > 0 && counts_above(tables, rule, at, max, counter, list) {
+            if max > 0 && counts_more_than(tables, rule, at, max, counter, list) {
                 let failed = first_past_max(tables, rule, at, max, list);
                 return Judged::Bad {
                     code: AVP_OCCURS_TOO_MANY_TIMES,

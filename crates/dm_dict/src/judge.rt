@@ -13,7 +13,7 @@ ghost use Rattle.dm_dict.specs.Links.{rule_links};
 use crate::codes::{COMMAND_UNSUPPORTED, INVALID_HDR_BITS};
 use crate::judged::{Failed, Judged};
 use crate::linked::{Linked, LinkedCommand, LinkedRule};
-use crate::message_avps::judge_avps;
+use crate::message_avps::judge_message_avps;
 use dm_wire::laws::members_spell;
 use dm_wire::{AvpsRef, Header};
 use std::alloc::Global;
@@ -66,7 +66,7 @@ pub(crate) fn judge_message<'a>(
         entries: &def.rule,
         links,
     };
-    judge_avps(dictionary, rule, list, alloc)
+    judge_message_avps(dictionary, rule, list, alloc)
 }
 
 /// Whether nothing is wrong with a message of this header and these AVPs. It never answers want of memory.

@@ -266,7 +266,7 @@ impl Linked {
     /// True only where the command at the place is the first that has the code with REQ and ERR. Where there is none at
     /// the place the answer is no.
     #[inline(always)]
-    fn is_headed_at(&self, place: usize, code: u32, request: bool, err: bool) -> bool
+    fn has_head_at(&self, place: usize, code: u32, request: bool, err: bool) -> bool
         requires { IsLinked self.now }
         ensures { result ≡ true
             → Some place ≡ position_from (is_headed code request err) 0 self.now.tables.commands.items }
@@ -285,7 +285,7 @@ impl Linked {
         ensures { result ≡ position_from (is_headed code request err) 0 self.now.tables.commands.items }
     {
         let place = usize::from(self.heads[head_slot(code, request)]);
-        if self.is_headed_at(place, code, request, err) {
+        if self.has_head_at(place, code, request, err) {
             Some(place)
         } else {
             self.tables.command_place(code, request, err)

@@ -124,7 +124,7 @@ fn first_places(alloc: Global, rows: &[Row]) -> Result<IndexMap<usize, usize>, N
 }
 
 /// The places of the links of a long rule. Those of a short one aren't wanted.
-fn index(alloc: Global, rows: &[Row]) -> Result<IndexMap<usize, usize>, NoMemory>
+fn long_rule_places(alloc: Global, rows: &[Row]) -> Result<IndexMap<usize, usize>, NoMemory>
     ensures { IfOk result (λ places. short_rule < length rows.now → (k : ℕ)
         → get_by (nat_eq k) places ≡ position_from (has_link (Some k)) 0 rows.now) }
 {
@@ -166,7 +166,7 @@ impl Links {
     fn new(alloc: Global, items: Vec<Row>, bounds: Bounds) -> Result<Links, NoMemory>
         ensures { IfOk result (λ linked. linked ≡ record { rows = items.items; bounds = bounds }) }
     {
-        let places = index(alloc, items.as_slice())?;
+        let places = long_rule_places(alloc, items.as_slice())?;
         let any = place_among(items.as_slice(), None);
         let seats = seats_of(items.as_slice());
         Ok(Links {
@@ -225,7 +225,7 @@ impl Links {
     /// The place of the first entry that names the AVPs of this code and vendor, and its row, where the code's seat has
     /// it and an AVP may stand there. None doesn't tell that there is no such entry.
     #[inline(always)]
-    pub(crate) fn row(&self, code: u32, vendor: Option<u32>) -> Option<(usize, Row)>
+    pub(crate) fn row_at_seat(&self, code: u32, vendor: Option<u32>) -> Option<(usize, Row)>
         ensures place { IfSome result (λ found. Some found.0 ≡ position_from (names_avps code vendor) 0 self.now.rows) }
         ensures row { IfSome result (λ found. Some found.1 ≡ slice_get self.now.rows found.0) }
         ensures own { IfSome result (λ found. names_avps code vendor found.1 ≡ true) }

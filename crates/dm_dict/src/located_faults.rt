@@ -11,7 +11,7 @@ ghost use Rattle.dm_dict.specs.Listing.{AreFoundIn};
 ghost use Rattle.dm_dict.specs.Located.{located_faults};
 ghost use Rattle.dm_dict.specs.Locating.{told_at, AddsAt};
 
-use crate::avp_faults::locate_list;
+use crate::avp_faults::add_faults_under_rule;
 use crate::codes::{COMMAND_UNSUPPORTED, INVALID_HDR_BITS};
 use crate::fault::Fault;
 use crate::findings::Findings;
@@ -25,8 +25,8 @@ use dm_wire::laws::members_spell;
 use dm_wire::{AvpsRef, Header, Message, MessageRef};
 use std::alloc::Global;
 
-/// Lists the faults of a message of this header and these AVPs, in no groups.
-fn locate_message<'a>(
+/// Adds the faults of a message of this header and these AVPs, in no groups.
+fn add_message_faults<'a>(
     alloc: Global,
     findings: &mut Findings<'a>,
     path: Option<&Path>,
@@ -53,10 +53,10 @@ fn locate_message<'a>(
         entries: &def.rule,
         links,
     };
-    locate_list(alloc, findings, path, dictionary, rule, list, GROUPS)
+    add_faults_under_rule(alloc, findings, path, dictionary, rule, list, GROUPS)
 }
 
-/// Lists what is wrong with a message of this header and these AVPs, in no groups. It wants memory only where something
+/// Adds what is wrong with a message of this header and these AVPs, in no groups. It wants memory only where something
 /// is.
 pub(crate) fn find_faults<'a>(
     alloc: Global,
@@ -77,11 +77,11 @@ pub(crate) fn find_faults<'a>(
     if is_good(alloc, dictionary, header, list) {
         return Ok(());
     }
-    locate_message(alloc, findings, path, dictionary, header, list)
+    add_message_faults(alloc, findings, path, dictionary, header, list)
 }
 
 /// All faults of a message of this header and these AVPs with their paths, in order.
-fn collect_located<'a>(
+fn collect_located_faults<'a>(
     alloc: Global,
     dictionary: &Linked,
     header: &Header,
@@ -103,7 +103,7 @@ fn collect_located<'a>(
 }
 
 /// All faults of a message of this header, whose AVPs the octets spell, with their paths, in order.
-fn located_spelled<'a>(
+fn located_faults_of_spelled<'a>(
     alloc: Global,
     dictionary: &Linked,
     header: &Header,
@@ -117,7 +117,7 @@ fn located_spelled<'a>(
         → has_none (faults (defined dictionary.now.tables) (record { header = header.now; avps = l })) ≡ false) }
 {
     members_spell();
-    collect_located(alloc, dictionary, header, AvpsRef::Spelled(octets))
+    collect_located_faults(alloc, dictionary, header, AvpsRef::Spelled(octets))
 }
 
 impl Dictionary {
@@ -137,7 +137,7 @@ impl Dictionary {
         ensures memory { OnErr result (has_none (faults self.now message.now) ≡ false) }
     {
         let list = AvpsRef::Held(message.avps.as_slice());
-        collect_located(alloc, &self.linked, &message.header, list)
+        collect_located_faults(alloc, &self.linked, &message.header, list)
     }
 
     /// All that is wrong with the message where it lies: the same as `located` of the decoded message.
@@ -156,6 +156,6 @@ impl Dictionary {
         ensures memory { OnErr result ((l : List Avp) → SpellsList l message.now.rest.now
             → has_none (faults self.now (record { header = message.now.header; avps = l })) ≡ false) }
     {
-        located_spelled(alloc, &self.linked, &message.header, message.rest)
+        located_faults_of_spelled(alloc, &self.linked, &message.header, message.rest)
     }
 }

@@ -11,14 +11,14 @@ ghost use Rattle.dm_dict.specs.Judgement.{shown};
 ghost use Rattle.dm_dict.specs.Limits.{group_limit};
 ghost use Rattle.dm_dict.specs.Passed.{IsGoodBut, PassesList};
 
-use crate::avps::judge_counted;
+use crate::avps::judge_list_from;
 use crate::counts::{FEW_ENTRIES, MANY_ENTRIES, counters, long_rule_counters};
 use crate::entries::are_bounds_kept;
 use crate::judge::GROUPS;
 use crate::judged::Judged;
 use crate::linked::{Linked, LinkedRule};
 use crate::passing::{pass_avp_with_row, pass_looked_up_avp, pass_undefined_avp};
-use crate::rules::row_for;
+use crate::rules::row_by_seat;
 use dm_wire::AvpsRef;
 use std::alloc::Global;
 
@@ -65,7 +65,7 @@ fn pass_avps_with_rows<'a>(
 {
     let mut left = list;
     while let Some((avp, rest)) = left.split_first() {
-        let Some((at, row)) = row_for(dictionary, rule, avp) else {
+        let Some((at, row)) = row_by_seat(dictionary, rule, avp) else {
             return left;
         };
         if !pass_avp_with_row(dictionary, at, row, avp, GROUPS, counts) {
@@ -99,7 +99,7 @@ fn pass_avps_without_row<'a>(
     if pass_undefined_avp(dictionary, rule, avp, counts) {
         return Some(pass_undefined_avps(dictionary, rule, rest, counts));
     }
-    if row_for(dictionary, rule, avp).is_none()
+    if row_by_seat(dictionary, rule, avp).is_none()
         && pass_looked_up_avp(dictionary, rule, avp, GROUPS, counts)
     {
         Some(rest)
@@ -154,7 +154,7 @@ fn judge_with_counters<'a>(
     if left.split_first().is_none() && are_bounds_kept(rule, counts) {
         return Judged::Good;
     }
-    judge_counted(dictionary, rule, list, left, GROUPS, alloc, counts)
+    judge_list_from(dictionary, rule, list, left, GROUPS, alloc, counts)
 }
 
 /// The first fault of AVPs under a rule of many entries, by counters on the stack.
@@ -204,7 +204,7 @@ fn judge_long_rule<'a>(
 
 /// The first fault of the AVPs of a message under its rule.
 #[inline(always)]
-pub(crate) fn judge_avps<'a>(
+pub(crate) fn judge_message_avps<'a>(
     dictionary: &Linked,
     rule: LinkedRule<'_>,
     list: AvpsRef<'a>,

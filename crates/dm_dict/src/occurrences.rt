@@ -37,7 +37,7 @@ fn count_code(
 }
 
 /// Whether the definition at the place is that of a group.
-fn is_group_type(dictionary: &Linked, place: Option<usize>) -> bool
+fn is_group_at(dictionary: &Linked, place: Option<usize>) -> bool
     requires { IsLinked dictionary.now }
     ensures { (path : Path) → result
         ≡ is_wanted (Some path) (option_and_then (slice_get dictionary.now.tables.avps.items) place) }
@@ -53,7 +53,7 @@ fn is_group_type(dictionary: &Linked, place: Option<usize>) -> bool
 
 /// Counts the AVP, whose definition has this place, and tells which of its code and vendor it is behind those that were
 /// counted. Of an AVP that is no group, and where no path is kept, nothing is counted, and the number means nothing.
-pub(crate) fn count_occurrence<'a>(
+pub(crate) fn count_group_occurrence<'a>(
     numbers: &mut IndexMap<(u32, Option<u32>), usize>,
     path: Option<&Path>,
     dictionary: &Linked,
@@ -75,7 +75,7 @@ pub(crate) fn count_occurrence<'a>(
     let Some(_) = path else {
         return Ok(0);
     };
-    if is_group_type(dictionary, place) {
+    if is_group_at(dictionary, place) {
         return count_code(numbers, avp.code, avp.vendor);
     }
     Ok(0)

@@ -24,7 +24,7 @@ use crate::data::passes_data;
 use crate::entries::are_bounds_kept;
 use crate::linked::{Linked, LinkedRule};
 use crate::rows::Row;
-use crate::rules::{allows_at, look_up_by_marks, place_and_entry, row_for};
+use crate::rules::{allows_at, look_up_by_marks, place_and_entry, row_by_seat};
 use byteorder::{BigEndian, ByteOrder};
 use dm_tables::Rule;
 use dm_value::AvpType;
@@ -66,7 +66,7 @@ fn passes_avp(
     passes_defined(dictionary, kind, place, avp, depth)
 }
 
-/// Whether nothing is wrong with octets of the definition at the place, which is that of an Enumerated.
+/// True only where nothing is wrong with octets of the definition at the place, which is that of an Enumerated.
 // (A function of its own in the machine's code too: a definition is looked at where it has a list alone.)
 #[inline(never)]
 fn passes_enumerated(dictionary: &Linked, place: usize, octets: &[u8]) -> bool
@@ -79,7 +79,8 @@ fn passes_enumerated(dictionary: &Linked, place: usize, octets: &[u8]) -> bool
     octets.len() == 4 && !def.values.leaves_out(BigEndian::read_i32(octets))
 }
 
-/// Whether the definition at the place is that of Failed-AVP, whose data isn't read, so that nothing is wrong with it.
+/// True only where nothing is wrong with an AVP of the definition at the place that may stand where it stands: it is
+/// Failed-AVP, whose data isn't read.
 // (A function of its own in the machine's code too: it's wanted where something else is wrong.)
 #[inline(never)]
 fn is_failed_avp_at(dictionary: &Linked, place: usize) -> bool
@@ -286,7 +287,7 @@ fn pass_octets_with_rows<'a>(
 {
     let mut left = octets;
     while let Some((avp, size)) = first_avp(left) {
-        let Some((entry, row)) = row_for(dictionary, rule, avp) else {
+        let Some((entry, row)) = row_by_seat(dictionary, rule, avp) else {
             return Some(left);
         };
         count_at_entry(counts, 0, Some(entry));
@@ -328,8 +329,8 @@ fn pass_octets_without_row<'a>(
     }
 }
 
-/// Whether the octets are AVPs, one after the other, and nothing is wrong with each of them under the rule; they are
-/// counted.
+/// True only where the octets are AVPs, one after the other, and nothing is wrong with each of them under the rule;
+/// then they are counted.
 #[cycle(passing)]
 #[inline(always)]
 fn pass_octets(
@@ -362,8 +363,8 @@ fn pass_octets(
     false
 }
 
-/// Whether the octets are AVPs and nothing is wrong with them under the rule, by these counters, all zero, where there
-/// is one for each of its entries.
+/// True only where the octets are AVPs and nothing is wrong with them under the rule, by these counters, all zero. It
+/// is seen where there is one for each of its entries.
 #[cycle(passing)]
 #[inline(always)]
 fn passes_with_counters(
@@ -385,7 +386,12 @@ fn passes_with_counters(
 
 /// True only where the octets are AVPs and nothing is wrong with them under a rule of few entries.
 #[cycle(passing)]
-fn passes_few_entries(dictionary: &Linked, rule: LinkedRule<'_>, octets: &[u8], depth: u32) -> bool
+fn passes_under_few_entries(
+    dictionary: &Linked,
+    rule: LinkedRule<'_>,
+    octets: &[u8],
+    depth: u32,
+) -> bool
     requires linked { IsLinked dictionary.now }
     requires fit { IsFit dictionary.now.tables.avps.items }
     requires rule { IsRule dictionary.now.tables.avps.items rule }
@@ -400,7 +406,12 @@ fn passes_few_entries(dictionary: &Linked, rule: LinkedRule<'_>, octets: &[u8], 
 // (A function of its own in the machine's code too: its counters would be zeroed at its caller's entry.)
 #[cycle(passing)]
 #[inline(never)]
-fn passes_many_entries(dictionary: &Linked, rule: LinkedRule<'_>, octets: &[u8], depth: u32) -> bool
+fn passes_under_many_entries(
+    dictionary: &Linked,
+    rule: LinkedRule<'_>,
+    octets: &[u8],
+    depth: u32,
+) -> bool
     requires linked { IsLinked dictionary.now }
     requires fit { IsFit dictionary.now.tables.avps.items }
     requires rule { IsRule dictionary.now.tables.avps.items rule }
@@ -423,8 +434,8 @@ fn passes_members(dictionary: &Linked, rule: LinkedRule<'_>, octets: &[u8], dept
 {
     let size = rule.entries.as_slice().len();
     if size <= FEW_ENTRIES {
-        passes_few_entries(dictionary, rule, octets, depth)
+        passes_under_few_entries(dictionary, rule, octets, depth)
     } else {
-        size <= MANY_ENTRIES && passes_many_entries(dictionary, rule, octets, depth)
+        size <= MANY_ENTRIES && passes_under_many_entries(dictionary, rule, octets, depth)
     }
 }

@@ -1,6 +1,5 @@
 //! The groups round an AVP (RFC 6733, 4.4).
-ghost use Rattle.std.specs.Prelude.{◌≡◌, ◌<◌, ◌≤◌, ◌+◌, ◌++◌, ◌∷◌, []};
-ghost use Rattle.dm_dict.specs.Locating.{path_of};
+ghost use Rattle.std.specs.Prelude.{◌≤◌};
 
 /// A group round an AVP.
 #[derive(Clone, Copy, Debug)]
@@ -22,6 +21,9 @@ pub struct Path {
 }
 
 impl Path {
+    ghost use Rattle.std.specs.Prelude.{◌≡◌, ◌<◌, ◌+◌, ◌++◌, ◌∷◌, []};
+    ghost use Rattle.dm_dict.specs.Locating.{path_of};
+
     /// No groups.
     pub(crate) fn top() -> Path
         ensures none { path_of result ≡ [] }

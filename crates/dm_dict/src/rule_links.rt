@@ -92,7 +92,7 @@ impl RuleLinks {
     }
 
     /// Adds the links of a rule without entries behind the others.
-    fn push_none(&mut self, alloc: Global) -> Result<(), NoMemory>
+    fn push_empty_links(&mut self, alloc: Global) -> Result<(), NoMemory>
         ensures { OnOk result (self.new ≡ self.old ++ no_links ∷ []) }
     {
         keep_empty_links(alloc, &mut self.kept)?;
@@ -123,7 +123,7 @@ impl RuleLinks {
         ensures { OnOk result (self.new ≡ self.old ++ rule_links tables.now.avps.items rule.now ∷ []) }
     {
         if rule.as_slice().is_empty() {
-            self.push_none(alloc)
+            self.push_empty_links(alloc)
         } else {
             let links = Links::of_rule(alloc, tables, guesses, rule)?;
             self.push_links(alloc, links)

@@ -16,7 +16,9 @@ ghost use Rattle.dm_dict.specs.Found.{finds_missing};
 ghost use Rattle.dm_dict.specs.Judgement.{shown};
 ghost use Rattle.dm_dict.specs.Limits.{middle_window, window};
 
-use crate::counts::{MANY_ENTRIES, MIDDLE_WINDOW, SHORT_WINDOW, WINDOW, count_avps_from, counters};
+use crate::counts::{
+    MANY_ENTRIES, MIDDLE_WINDOW, SHORT_WINDOW, WINDOW, count_at_entries_from, counters,
+};
 use crate::entries::judge_entry;
 use crate::judged::Judged;
 use crate::linked::LinkedRule;
@@ -114,7 +116,7 @@ fn judge_recounted<'a>(
         (drop (from + length counts.old) rule.entry.entries.now))) }
     ensures missing { finds_missing result ≡ false }
 {
-    count_avps_from(tables, rule, from, list, counts);
+    count_at_entries_from(tables, rule, from, list, counts);
     judge_window(tables, rule, from, counts, list)
 }
 

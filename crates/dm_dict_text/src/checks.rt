@@ -45,7 +45,7 @@ fn is_stray(strays: &IndexSet<&[u8]>, name: &[u8]) -> bool
 }
 
 /// Whether an AVP has the name, a stray too.
-pub fn is_defined(
+pub fn is_avp_defined(
     tables: &Tables,
     guesses: &NameGuesses,
     strays: &IndexSet<&[u8]>,
@@ -59,7 +59,7 @@ pub fn is_defined(
 }
 
 /// Checks the name of an AVP, which must be new and not `AVP`; or gives its first fault.
-pub fn check_name(
+pub fn check_avp_name(
     tables: &Tables,
     guesses: &NameGuesses,
     strays: &IndexSet<&[u8]>,
@@ -71,7 +71,7 @@ pub fn check_name(
     ensures fault { IfErr result (λ f. first_dict_fault
         (name_faults (making tables.now strays.now) (view_word word.entry)) ≡ Some f) }
 {
-    if word.text == b"AVP".as_slice() || is_defined(tables, guesses, strays, word.text) {
+    if word.text == b"AVP".as_slice() || is_avp_defined(tables, guesses, strays, word.text) {
         Err(DictFault::Duplicate(word.line))
     } else {
         Ok(())
@@ -113,7 +113,7 @@ fn is_code_taken(tables: &Tables, code: u32, vendor: Option<Option<u32>>) -> boo
 
 /// Checks the code of an AVP and its vendor. Gives both, or the first fault. No vendor is known where it is a name that
 /// no vendor has.
-pub fn check_code(
+pub fn check_avp_code(
     tables: &Tables,
     code: Token<'_>,
     vendor: Option<VendorWord<'_>>,

@@ -18,7 +18,9 @@ ghost use Rattle.dm_dict_text.specs.Faults.{group_item_faults, command_item_faul
 ghost use Rattle.dm_grammar.specs.Items.Written.{AvpIs, GroupIs};
 
 use crate::DictFault;
-use crate::checks::{check_code, check_command_head, check_command_name, check_name, check_vendor};
+use crate::checks::{
+    check_avp_code, check_avp_name, check_command_head, check_command_name, check_vendor,
+};
 use crate::entries::rule;
 use crate::kind::type_named;
 use crate::value_list::value_list;
@@ -102,8 +104,8 @@ fn define_avp<'a>(
     ensures guesses { OnOk result (AreGuessed tables.new.avps.items guesses.new.places.items) }
     ensures fault { IfErr result (StopsAtFirst (avp_item_faults (making tables.old strays.old) (view_avp item.now))) }
 {
-    check_name(tables, guesses, strays, item.name)?;
-    let (code, vendor) = check_code(tables, item.code, item.vendor)?;
+    check_avp_name(tables, guesses, strays, item.name)?;
+    let (code, vendor) = check_avp_code(tables, item.code, item.vendor)?;
     let name = Octets::from_slice(alloc, item.name.text)?;
     let values = value_list(alloc, item.values.as_slice())?;
     let avp = AvpDef {
@@ -136,8 +138,8 @@ fn define_group<'a>(
     ensures fault { IfErr result (StopsAtFirst
         (group_item_faults (making tables.old strays.old) (view_group item.now))) }
 {
-    check_name(tables, guesses, strays, item.name)?;
-    let (code, vendor) = check_code(tables, item.code, item.vendor)?;
+    check_avp_name(tables, guesses, strays, item.name)?;
+    let (code, vendor) = check_avp_code(tables, item.code, item.vendor)?;
     let name = Octets::from_slice(alloc, item.name.text)?;
     let rule = rule(alloc, item.rule.as_slice())?;
     let avp = AvpDef {

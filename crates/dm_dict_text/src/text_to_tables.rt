@@ -19,7 +19,7 @@ use dm_tables::{NameGuesses, NoMemory, Tables};
 use indexmap::IndexSet;
 use std::alloc::Global;
 
-/// How many AVPs and commands the old tables and the items define.
+/// How many AVPs and commands to make room for: those of the old tables and of the items, and no more.
 fn avp_and_command_counts(old: &Tables, items: &[Item<'_>]) -> (usize, usize)
     ensures avps { result.0 ≤ length old.now.avps.items + length items.now }
     ensures commands { result.1 ≤ length old.now.commands.items + length items.now }

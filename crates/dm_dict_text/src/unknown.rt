@@ -10,7 +10,7 @@ ghost use Rattle.dm_dict_text.specs.Faults.{first_dict_fault, entry_unknown, rul
 ghost use Rattle.dm_dict_text.specs.Faults.{kind_unknown, unknown, vendors_with, items_unknown};
 
 use crate::DictFault;
-use crate::checks::is_defined;
+use crate::checks::is_avp_defined;
 use crate::kind::type_named;
 use dm_grammar::{EntryItem, Item, Token, VendorWord};
 use dm_tables::{NameGuesses, Tables, VendorDef, Vendors};
@@ -28,7 +28,7 @@ fn unknown_entry_fault(
     ensures { result ≡ first_dict_fault (entry_unknown (making tables.now strays.now) (view_entry entry.now)) }
 {
     let word = entry.name;
-    if word.text == b"AVP".as_slice() || is_defined(tables, guesses, strays, word.text) {
+    if word.text == b"AVP".as_slice() || is_avp_defined(tables, guesses, strays, word.text) {
         None
     } else {
         Some(DictFault::UnknownName(word.line))

@@ -1,6 +1,4 @@
 //! What an IP packet carries.
-ghost use Rattle.std.specs.Prelude.{◌≡◌, take};
-
 use crate::address::Address;
 
 /// What an IP packet carries, where it lies.
@@ -13,15 +11,4 @@ pub(crate) struct Carried<'a> {
     pub(crate) payload: &'a [u8],
     /// Whether that is all.
     pub(crate) whole: bool,
-}
-
-/// The first so many of the octets, or all where there are fewer.
-pub(crate) fn first_octets(octets: &[u8], size: usize) -> &[u8]
-    ensures { result.now ≡ take size octets.now }
-{
-    if octets.len() < size {
-        octets
-    } else {
-        &octets[..size]
-    }
 }

@@ -8,9 +8,9 @@ ghost use Rattle.dm_flows.specs.Flows.{BeginsAnew, TakesWithin, TakesPayload, Le
 ghost use Rattle.dm_flows.specs.Flows.{HandsMessage, HandsNoMessage};
 ghost use Rattle.dm_flows.specs.Windows.{place_ahead, sequence_behind};
 
-use crate::carried::first_octets;
 use crate::closing::Closing;
 use crate::header::begins_with_header;
+use crate::octet_slices::first_octets;
 use crate::window::{Window, WindowFault};
 use dm_framer::Framer;
 use std::alloc::{AllocError, Global};

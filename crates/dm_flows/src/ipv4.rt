@@ -3,7 +3,8 @@ ghost use Rattle.std.specs.Prelude.{◌≡◌, ◌≤◌, length, IfOk, IfErr};
 ghost use Rattle.dm_flows.specs.Ips.{IsIpv4, HasIpv4Fault, ipv4_header, ipv4_total, ipv4_carried, carried_of};
 
 use crate::address::Address;
-use crate::carried::{Carried, first_octets};
+use crate::carried::Carried;
+use crate::octet_slices::first_octets;
 use crate::passed::Passed;
 use byteorder::{BigEndian, ByteOrder};
 

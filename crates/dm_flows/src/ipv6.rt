@@ -4,8 +4,9 @@ ghost use Rattle.dm_flows.specs.Ips.{IsIpv6, HasIpv6Fault, carried_of, ipv6_size
 ghost use Rattle.dm_flows.specs.Ips.{ipv6_carried};
 
 use crate::address::Address;
-use crate::carried::{Carried, first_octets};
+use crate::carried::Carried;
 use crate::extensions::{Astray, Upper, pass_extensions};
+use crate::octet_slices::first_octets;
 use crate::passed::Passed;
 use byteorder::{BigEndian, ByteOrder};
 

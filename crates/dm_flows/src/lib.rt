@@ -15,6 +15,7 @@ mod ipv6;
 pub mod laws;
 mod link;
 mod network;
+mod octet_slices;
 mod passed;
 mod sctp;
 mod sctp_chunks;

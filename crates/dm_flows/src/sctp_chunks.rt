@@ -3,7 +3,7 @@ ghost use Rattle.std.specs.Prelude.{◌≡◌, ◌<◌, ◌≤◌, ℕ, length, 
 ghost use Rattle.dm_flows.specs.Sctps.{chunk_length, has_flag, behind_chunk, data_chunk, data_seen, IsData};
 ghost use Rattle.dm_flows.specs.Sctps.{IsWholeChunk, HasData, HasNoData};
 
-use crate::slots::without_first;
+use crate::octet_slices::without_first;
 use byteorder::{BigEndian, ByteOrder};
 use std::marker::Model;
 
@@ -103,7 +103,7 @@ fn read_data_chunk(octets: &[u8], size: u16) -> DataChunk<'_>
 }
 
 /// The next DATA chunk that has user data, and the octets behind it; None where no whole chunk that is left is one.
-fn next_data(octets: &[u8]) -> Option<FoundData<'_>>
+fn next_data_chunk(octets: &[u8]) -> Option<FoundData<'_>>
     ensures found { IfSome result (λ found. HasData octets.now (data_seen found.chunk) found.rest.now) }
     ensures shorter { IfSome result (λ found. length found.rest.now < length octets.now) }
     ensures none { IfNone result (HasNoData octets.now) }
@@ -161,7 +161,7 @@ impl<'a> Iterator for DataChunks<'a> {
     ghost remaining = { λ chunks. at_most (length chunks) };
 
     fn next(&mut self) -> Option<DataChunk<'a>> {
-        match next_data(self.rest) {
+        match next_data_chunk(self.rest) {
             Some(found) => {
                 self.rest = found.rest;
                 Some(found.chunk)

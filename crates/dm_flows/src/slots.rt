@@ -1,20 +1,9 @@
 //! Slots of octets by number: what came of each.
-ghost use Rattle.std.specs.Prelude.{◌≡◌, ◌<◌, ◌≤◌, ◌+◌, ℕ, Some, length, max, drop, slice_set, OnOk, OnErr};
+ghost use Rattle.std.specs.Prelude.{◌≡◌, ◌<◌, ◌≤◌, ◌+◌, ℕ, Some, length, max, slice_set, OnOk, OnErr};
 ghost use Rattle.dm_flows.specs.Windows.{slot, first_known, known_octets, IsFilled};
 
 use std::alloc::AllocError;
 use std::collections::VecDeque;
-
-/// The octets without so many at the front; none where there are fewer.
-pub(crate) fn without_first(octets: &[u8], passed: usize) -> &[u8]
-    ensures { result.now ≡ drop passed octets.now }
-{
-    if octets.len() < passed {
-        &octets[octets.len()..]
-    } else {
-        &octets[passed..]
-    }
-}
 
 /// How many slots have an octet.
 pub(crate) fn count_filled_slots(slots: &VecDeque<Option<u8>>) -> usize
@@ -38,7 +27,7 @@ pub(crate) fn grow_slots(slots: &mut VecDeque<Option<u8>>, size: usize) -> Resul
 }
 
 /// Fills a slot, if it is empty.
-fn fill_slot(slots: &mut VecDeque<Option<u8>>, at: usize, octet: u8)
+fn fill_empty_slot(slots: &mut VecDeque<Option<u8>>, at: usize, octet: u8)
     requires { at < length slots.old.items }
     ensures { slots.new.items
         ≡ slice_set slots.old.items at (first_known (slot slots.old.items at) (Some octet)) }
@@ -49,11 +38,11 @@ fn fill_slot(slots: &mut VecDeque<Option<u8>>, at: usize, octet: u8)
 }
 
 /// Fills those of the slots from a place on that are empty.
-pub(crate) fn fill_slots(slots: &mut VecDeque<Option<u8>>, at: usize, octets: &[u8])
+pub(crate) fn fill_empty_slots(slots: &mut VecDeque<Option<u8>>, at: usize, octets: &[u8])
     requires { at + length octets.now ≤ length slots.old.items }
     ensures { IsFilled slots.old.items at octets.now slots.new.items }
 {
     'octets: for index in 0..octets.len() {
-        fill_slot(slots, at + index, octets[index]);
+        fill_empty_slot(slots, at + index, octets[index]);
     }
 }

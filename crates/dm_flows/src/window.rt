@@ -3,7 +3,8 @@ ghost use Rattle.std.specs.Prelude.{◌≡◌, ◌≤◌, ◌++◌, [], length, 
 ghost use Rattle.dm_flows.specs.Windows.{slot, known_octets, place_ahead, passed_of, lies_far_behind, arrival_from};
 ghost use Rattle.dm_flows.specs.Windows.{IsTooFar, TakesOctets, HandsTo, HandsStraight, TakesThrough, LeavesThrough};
 
-use crate::slots::{count_filled_slots, fill_slots, grow_slots, without_first};
+use crate::octet_slices::without_first;
+use crate::slots::{count_filled_slots, fill_empty_slots, grow_slots};
 use std::alloc::{AllocError, Global};
 use std::collections::VecDeque;
 use std::marker::Model;
@@ -104,7 +105,7 @@ impl Window {
         if grow_slots(&mut self.slots, place.at + fresh.len()).is_err() {
             return Err(WindowFault::NoMemory);
         }
-        fill_slots(&mut self.slots, place.at, fresh);
+        fill_empty_slots(&mut self.slots, place.at, fresh);
         Ok(())
     }
 

@@ -7,8 +7,8 @@ ghost use Rattle.dm_framer.specs.Frames.{HasFault, Framed, IsFrame, IsPartial, B
 ghost use Rattle.dm_framer.specs.Stream.{Stream, new_stream, IsFrontFrame};
 
 use crate::FrameFault;
-use crate::buffer::drop_taken;
-use crate::front::{HEADER_FRONT, front_len, wanted};
+use crate::buffer::compact_if_cheap;
+use crate::front::{HEADER_FRONT, front_len, wanted_len};
 use std::alloc::Global;
 use std::marker::Model;
 
@@ -66,7 +66,7 @@ impl Framer {
         if let Some(fault) = self.fault {
             return Err(fault);
         }
-        self.taken = drop_taken(&mut self.buffer, self.taken);
+        self.taken = compact_if_cheap(&mut self.buffer, self.taken);
         self.buffer.extend_from_slice(piece)?;
         Ok(())
     }
@@ -92,7 +92,7 @@ impl Framer {
         let header = HEADER_FRONT.saturating_sub(self.len()).min(piece.len());
         let (front, behind) = piece.split_at(header);
         self.feed(front)?;
-        let more = wanted(&self.buffer[self.taken..], self.max, behind.len());
+        let more = wanted_len(&self.buffer[self.taken..], self.max, behind.len());
         match self.feed(&behind[..more]) {
             Ok(()) => Ok(header + more),
             Err(fault) => {

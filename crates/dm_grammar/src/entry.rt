@@ -11,7 +11,7 @@ use crate::item::{EntryItem, Form, Qualifier};
 use crate::reading::Reading;
 use crate::symbol::Symbol;
 use crate::terminal::Terminal;
-use crate::title::begins_title;
+use crate::title::begins_bracketed_title;
 use crate::token::Token;
 
 /// The form of the entry that a bracket opens; None for a symbol that opens none.
@@ -92,7 +92,8 @@ pub(crate) fn begins_entry(tokens: &[Token<'_>]) -> bool
         || begins_with_terminal(tokens, Terminal::One(Symbol::Star))
         || begins_with_terminal(tokens, Terminal::One(Symbol::OpenBrace))
         || begins_with_terminal(tokens, Terminal::One(Symbol::OpenSquare))
-        || (begins_with_terminal(tokens, Terminal::One(Symbol::Less)) && !begins_title(tokens))
+        || (begins_with_terminal(tokens, Terminal::One(Symbol::Less))
+            && !begins_bracketed_title(tokens))
 }
 
 /// The entry with which the tokens begin.

@@ -20,6 +20,16 @@ pub(crate) fn same_tokens<'t, 'a>(tokens: &'t [Token<'a>]) -> &'t [Token<'a>]
     tokens
 }
 
+/// The line of a fault at the next token.
+pub(crate) fn fault_line(tokens: &[Token<'_>], how: Reading) -> usize
+    ensures { result ≡ fault_line how.last (view_words tokens.now) }
+{
+    match tokens.first() {
+        Some(token) => token.line,
+        None => how.last,
+    }
+}
+
 /// The first token, where it is the terminal that a place with one step wants, and the rest; else the line of the
 /// fault: that token's, or the last one where there is no token.
 pub(crate) fn expect_token<'t, 'a>(

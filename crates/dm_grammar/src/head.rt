@@ -1,7 +1,8 @@
-//! The head of a command or a group.
+//! The head of a command or a group: what stands between `<` and `>` behind `::=`.
 
 ghost use Rattle.std.specs.Prelude.{◌≡◌, ◌<◌, ◌≤◌, drop, length, MatchResult, IfOk, Err, if◌then◌else◌};
-ghost use Rattle.dm_grammar.specs.Places.GrammarPlace.{CommandColon, Flagged, GroupCoded, GroupColon, InRule};
+ghost use Rattle.dm_grammar.specs.Places.GrammarPlace.{CommandColon, CommandWord, Flagged, GroupCoded, GroupColon};
+ghost use Rattle.dm_grammar.specs.Places.GrammarPlace.{GroupWord, Head as HeadPlace, InRule};
 ghost use Rattle.dm_grammar.specs.Places.TokenRole.{CommandHead};
 ghost use Rattle.dm_grammar.specs.Readers.{begins_flag, with_end, with_head, with_second};
 ghost use Rattle.dm_grammar.specs.Told.{collect, filled};
@@ -75,7 +76,7 @@ fn read_head_end<'t, 'a>(
 }
 
 /// The rest of a command's head: ":" number ["," "REQ"] ["," "PXY"] ["," "ERR"] [[","] number] ">".
-pub(crate) fn read_command_head<'t, 'a>(
+fn read_command_head<'t, 'a>(
     tokens: &'t [Token<'a>],
     how: Reading,
 ) -> Result<(Head<'a>, &'t [Token<'a>]), usize>
@@ -108,7 +109,7 @@ pub(crate) fn read_command_head<'t, 'a>(
 }
 
 /// The end of a group's head, with the name or the number of its vendor: [[","] number | ":" name] ">".
-fn read_group_end<'t, 'a>(
+fn read_group_head_end<'t, 'a>(
     tokens: &'t [Token<'a>],
     how: Reading,
 ) -> Result<((Option<Token<'a>>, Option<Token<'a>>), &'t [Token<'a>]), usize>
@@ -134,7 +135,7 @@ fn read_group_end<'t, 'a>(
 }
 
 /// The rest of a group's head: ":" number [[","] number | ":" name] ">".
-pub(crate) fn read_group_head<'t, 'a>(
+fn read_group_head<'t, 'a>(
     tokens: &'t [Token<'a>],
     how: Reading,
 ) -> Result<(Head<'a>, &'t [Token<'a>]), usize>
@@ -150,7 +151,7 @@ pub(crate) fn read_group_head<'t, 'a>(
         Terminal::One(Symbol::Colon),
         Terminal::One(Symbol::Number),
     )?;
-    let ((named, second), rest) = read_group_end(rest, how)?;
+    let ((named, second), rest) = read_group_head_end(rest, how)?;
     let head = Head {
         command: false,
         code: words.1,
@@ -161,4 +162,57 @@ pub(crate) fn read_group_head<'t, 'a>(
         named,
     };
     Ok((head, rest))
+}
+
+/// Behind `Diameter`: `Header`, and the rest of a command's head.
+fn read_header_and_command_head<'t, 'a>(
+    tokens: &'t [Token<'a>],
+    how: Reading,
+) -> Result<(Head<'a>, &'t [Token<'a>]), usize>
+    ensures tells { (w : Word) → MatchResult result
+        (λ x. filled CommandHead w (collect how CommandWord (view_words tokens.now))
+        ≡ with_head (view_head x.0) (collect how InRule (view_words x.1.now)))
+        (λ line. collect how CommandWord (view_words tokens.now) ≡ Err line) }
+    ensures shorter { IfOk result (λ x. length x.1.now < length tokens.now) }
+{
+    let (_header, rest) = expect_token(tokens, how, Terminal::One(Symbol::Header))?;
+    read_command_head(rest, how)
+}
+
+/// Behind `AVP`: `Header`, and the rest of a group's head.
+fn read_header_and_group_head<'t, 'a>(
+    tokens: &'t [Token<'a>],
+    how: Reading,
+) -> Result<(Head<'a>, &'t [Token<'a>]), usize>
+    ensures tells { MatchResult result
+        (λ x. collect how GroupWord (view_words tokens.now)
+        ≡ with_head (view_head x.0) (collect how InRule (view_words x.1.now)))
+        (λ line. collect how GroupWord (view_words tokens.now) ≡ Err line) }
+    ensures shorter { IfOk result (λ x. length x.1.now < length tokens.now) }
+{
+    let (_header, rest) = expect_token(tokens, how, Terminal::One(Symbol::Header))?;
+    read_group_head(rest, how)
+}
+
+/// A head: ("Diameter" "Header" | "Diameter-Header") or ("AVP" "Header" | "AVP-Header"), and its rest.
+pub(crate) fn read_head<'t, 'a>(
+    tokens: &'t [Token<'a>],
+    how: Reading,
+) -> Result<(Head<'a>, &'t [Token<'a>]), usize>
+    ensures tells { MatchResult result
+        (λ x. collect how HeadPlace (view_words tokens.now)
+        ≡ with_head (view_head x.0) (collect how InRule (view_words x.1.now)))
+        (λ line. collect how HeadPlace (view_words tokens.now) ≡ Err line) }
+    ensures shorter { IfOk result (λ x. length x.1.now < length tokens.now) }
+{
+    let Some((first, rest)) = tokens.split_first() else {
+        return Err(how.last);
+    };
+    match first.symbol {
+        Symbol::Diameter => read_header_and_command_head(rest, how),
+        Symbol::DiameterHeader => read_command_head(rest, how),
+        Symbol::Avp => read_header_and_group_head(rest, how),
+        Symbol::AvpHeader => read_group_head(rest, how),
+        _ => Err(first.line),
+    }
 }

@@ -1,4 +1,4 @@
-//! The items of a dictionary text, as they are written: each part is its token.
+//! The types of the items of a dictionary text, as they are written: each part is its token.
 
 use crate::token::Token;
 

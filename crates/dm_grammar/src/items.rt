@@ -1,4 +1,4 @@
-//! The items of a dictionary text, one after the other.
+//! The items of a dictionary text, read one after the other.
 
 ghost use Rattle.std.specs.Prelude.{◌≡◌, ◌<◌, ◌++◌, ◌∷◌, ℕ, Result, length, map};
 ghost use Rattle.std.specs.Prelude.{false, [], MatchResult, IfOk, IfErr, Ok, Err};
@@ -57,7 +57,7 @@ fn command_or_group_item<'a>(name: Token<'a>, head: Head<'a>, rule: Vec<EntryIte
 }
 
 /// A command or a group: title "::=" "<" head ">" *entry.
-fn read_definition<'t, 'a>(
+fn read_command_or_group<'t, 'a>(
     alloc: Global,
     tokens: &'t [Token<'a>],
     how: Reading,
@@ -118,7 +118,7 @@ fn read_item<'t, 'a>(
     let (at, rest) = take_token_if(tokens, Terminal::One(Symbol::At));
     match at {
         Some(_) => read_vendor_or_avp(alloc, rest, how),
-        None => read_definition(alloc, tokens, how),
+        None => read_command_or_group(alloc, tokens, how),
     }
 }
 

@@ -105,7 +105,7 @@ fn key_words() -> &'static [KeyWord]
 }
 
 /// The symbol of a word that isn't digits alone.
-fn symbol_of_key_word(word: &[u8]) -> Symbol
+fn symbol_of_key_word_or_name(word: &[u8]) -> Symbol
     ensures { result ≡ symbol_among key_words word.now }
 {
     for row in key_words() {
@@ -123,6 +123,6 @@ pub(crate) fn symbol_of_word(word: &[u8]) -> Symbol
     if is_digits(word) {
         Symbol::Number
     } else {
-        symbol_of_key_word(word)
+        symbol_of_key_word_or_name(word)
     }
 }

@@ -29,7 +29,7 @@ pub struct Report {
 }
 
 /// What the peer does at the event, or the rule by which it refuses it. It is as it was where memory was wanted.
-fn ask_peer(
+fn reply_of_peer(
     peer: &mut Peer,
     alloc: Global,
     event: Event<'_>,
@@ -70,7 +70,7 @@ fn tell_event(
     ensures replies { OnErr result (replies.new.items ≡ replies.old.items) }
 {
     reserve_reply(replies)?;
-    let reply = ask_peer(peer, alloc, event)?;
+    let reply = reply_of_peer(peer, alloc, event)?;
     replies.push_reserved(reply);
     Ok(())
 }

@@ -4,7 +4,7 @@ ghost use Rattle.std.specs.Io.KnownBytes.{Appends};
 ghost use Rattle.std.specs.Process.{exit_status};
 ghost use Rattle.dm_io.specs.Ending.{line_of};
 
-use crate::written::write_text;
+use crate::written::write_line_if_any;
 use std::io::Write;
 use std::process::ExitCode;
 
@@ -33,26 +33,11 @@ pub fn end_program<T, E: Write>(
     ensures front { (front rest : List ℕ) × (line_of words.now ≡ front ++ rest)
         × Appends (E.contents errors.old) (E.contents errors.new) front }
 {
-    let told = tell_words(words, errors);
+    let told = write_line_if_any(words, errors);
     Ended {
         outcome,
         status,
         told,
-    }
-}
-
-/// Writes the words and a line feed, or nothing where there are no words. False where that fails.
-fn tell_words<E: Write>(words: &str, errors: &mut E) -> bool
-    ensures told { result ≡ true → Appends (E.contents errors.old) (E.contents errors.new) (line_of words.now) }
-    ensures front { (front rest : List ℕ) × (line_of words.now ≡ front ++ rest)
-        × Appends (E.contents errors.old) (E.contents errors.new) front }
-{
-    if words.is_empty() {
-        return true;
-    }
-    match write_text(errors, words.as_bytes()) {
-        Ok(()) => write_text(errors, b"\n").is_ok(),
-        Err(_) => false,
     }
 }
 

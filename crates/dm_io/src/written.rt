@@ -1,6 +1,7 @@
-//! A text, written.
-ghost use Rattle.std.specs.Prelude.{◌≡◌, ◌++◌, ℕ, List, OnOk, OnErr};
+//! Texts written whole.
+ghost use Rattle.std.specs.Prelude.{◌≡◌, ◌++◌, ℕ, List, OnOk, OnErr, true};
 ghost use Rattle.std.specs.Io.KnownBytes.{Appends};
+ghost use Rattle.dm_io.specs.Ending.{line_of};
 
 use std::io;
 use std::io::{Error, ErrorKind, Write};
@@ -42,4 +43,19 @@ fn write_octets<W: Write>(writer: &mut W, text: &[u8]) -> io::Result<()>
         }
     }
     Err(Error::from(ErrorKind::TimedOut))
+}
+
+/// Writes the words and a line feed, or nothing where there are no words. False where that fails.
+pub(crate) fn write_line_if_any<E: Write>(words: &str, errors: &mut E) -> bool
+    ensures told { result ≡ true → Appends (E.contents errors.old) (E.contents errors.new) (line_of words.now) }
+    ensures front { (front rest : List ℕ) × (line_of words.now ≡ front ++ rest)
+        × Appends (E.contents errors.old) (E.contents errors.new) front }
+{
+    if words.is_empty() {
+        return true;
+    }
+    match write_text(errors, words.as_bytes()) {
+        Ok(()) => write_text(errors, b"\n").is_ok(),
+        Err(_) => false,
+    }
 }

@@ -11,7 +11,7 @@ ghost use Rattle.dm_live.specs.Meetings.{meeting_of};
 ghost use Rattle.dm_live.specs.OrderLines.{order_asked};
 
 use crate::answer_lines::{
-    put_answer_states, put_event, put_ignored, put_neighbour, put_order_refusal, put_turn,
+    put_answer_states, put_event_answer, put_if_ignored, put_neighbour, put_order_refusal, put_turn,
 };
 use crate::asked::Asked;
 use crate::form::Form;
@@ -99,18 +99,18 @@ fn put_order_outcome(
 {
     match answer.told {
         Told::Nothing => {
-            put_ignored(text, order)?;
-            Ok(reset_neighbour(order))
+            put_if_ignored(text, order)?;
+            Ok(neighbour_to_reset(order))
         }
         _ => {
-            put_event(text, form, answer)?;
+            put_event_answer(text, form, answer)?;
             Ok(answer.neighbour)
         }
     }
 }
 
 /// The neighbour that an order has begin anew, if it is such an order.
-fn reset_neighbour(order: Order<'_>) -> Option<usize>
+fn neighbour_to_reset(order: Order<'_>) -> Option<usize>
     ensures { result ≡ whom_asked order.entry None }
 {
     match order {
@@ -211,7 +211,7 @@ fn tell_next_on_conn(
         × (meeting_of node.new ≡ meeting_of node.old) × (last.new ≡ last.old)
         × (string_bytes text.new ≡ string_bytes text.old)) }
 {
-    match next_turn(alloc, form, node, conn, answer) {
+    match tell_turn(alloc, form, node, conn, answer) {
         Ok(()) => put_turn_if_any(text, form, conn, last, answer),
         Err(error) => Err(error),
     }
@@ -244,7 +244,7 @@ fn put_turn_if_any(
 
 /// Tells the next message that came on the connection, or a fault, if there is one. What strangers send is told a peer
 /// that is alone.
-fn next_turn(
+fn tell_turn(
     alloc: Global,
     form: Form,
     node: &mut Node,

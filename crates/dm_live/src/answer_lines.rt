@@ -32,14 +32,14 @@ fn put_action(text: &mut String, action: &Action) -> Result<(), AllocError>
 {
     match action {
         Action::Connect(conn) => put_number_and_end(text, "connect ", conn.0),
-        Action::Send(conn, octets) => put_message(text, *conn, octets.as_slice()),
+        Action::Send(conn, octets) => put_sent_message(text, *conn, octets.as_slice()),
         Action::Close(conn) => put_number_and_end(text, "close ", conn.0),
         Action::Up(octets) => put_octets_and_end(text, "up ", octets.as_slice()),
     }
 }
 
 /// Appends the line of a message that is sent.
-fn put_message(text: &mut String, conn: Conn, message: &[u8]) -> Result<(), AllocError>
+fn put_sent_message(text: &mut String, conn: Conn, message: &[u8]) -> Result<(), AllocError>
     ensures { OnOk result (string_bytes text.new ≡ string_bytes text.old
         ++ codes "send " ++ decimal conn.0 ++ codes " " ++ encode_lower message.now ++ 10 ∷ []) }
 {
@@ -137,7 +137,11 @@ pub(crate) fn put_neighbour(
 }
 
 /// Appends the lines of what an event asked for.
-pub(crate) fn put_event(text: &mut String, form: Form, answer: &Answer) -> Result<(), AllocError>
+pub(crate) fn put_event_answer(
+    text: &mut String,
+    form: Form,
+    answer: &Answer,
+) -> Result<(), AllocError>
     ensures { OnOk result (string_bytes text.new
         ≡ string_bytes text.old ++ event_lines form (as_answer answer.now)) }
 {
@@ -162,7 +166,7 @@ pub(crate) fn put_turn(
 
 /// Appends that an order told no event, where it is one of those that tell one.
 #[tactic(auto, unfolding(crate::specs::Answers::ignored_line))]
-pub(crate) fn put_ignored(text: &mut String, order: Order<'_>) -> Result<(), AllocError>
+pub(crate) fn put_if_ignored(text: &mut String, order: Order<'_>) -> Result<(), AllocError>
     ensures { OnOk result (string_bytes text.new
         ≡ string_bytes text.old ++ ignored_line (order_asked order.entry).order) }
 {

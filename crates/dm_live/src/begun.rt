@@ -2,14 +2,14 @@
 ghost use Rattle.std.specs.Prelude.{◌≡◌, ◌++◌, ℕ, List, None, IfOk, OnOk};
 ghost use Rattle.std.specs.String.{string_bytes};
 ghost use Rattle.dm_peer.specs.Hosts.{config_fault};
-ghost use Rattle.dm_live.specs.Beginnings.{node_told_fault, first_told, form_told, IsConfiguredFor};
+ghost use Rattle.dm_live.specs.Beginnings.{node_told_fault, first_told, IsConfiguredFor};
 ghost use Rattle.dm_live.specs.Drafts.{settings_of};
 ghost use Rattle.dm_live.specs.Served.{fault_answer};
 ghost use Rattle.dm_live.specs.Stages.{IsBegun};
 
 use crate::answer_lines::put_fault_answer;
 use crate::configuration::Draft;
-use crate::form::Form;
+use crate::form::{Form, form_of};
 use crate::peers::node_with_peers;
 use dm_node::Node;
 use dm_peer::Config;
@@ -21,17 +21,6 @@ pub(crate) enum Begun {
     Nothing,
     /// Of so many peers.
     Running(Form, Node),
-}
-
-/// How many peers the draft tells.
-fn form_of(draft: &Draft) -> Form
-    ensures { result ≡ form_told (settings_of draft.now) }
-{
-    if draft.has_several_peers() {
-        Form::Several
-    } else {
-        Form::Alone
-    }
 }
 
 /// What the configuration begins; and appends that it does, or why it begins nothing.
@@ -46,12 +35,12 @@ pub(crate) fn begin_configured(
 {
     match draft.config(alloc)? {
         Ok(config) => begin_node(alloc, draft, config, number, text),
-        Err(name) => begin_nothing(number, name, text),
+        Err(name) => refuse_to_begin(number, name, text),
     }
 }
 
 /// Nothing is begun, for the reason of this name, which is appended.
-fn begin_nothing(number: u64, name: &str, text: &mut String) -> Result<Begun, AllocError>
+fn refuse_to_begin(number: u64, name: &str, text: &mut String) -> Result<Begun, AllocError>
     ensures nothing { IfOk result (λ begun. begun ≡ Begun.Nothing) }
     ensures answer { OnOk result (string_bytes text.new ≡ string_bytes text.old ++ fault_answer number name.now) }
 {
@@ -79,6 +68,6 @@ fn begin_node(
         Ok(node) => text
             .push_str("ready\n.\n")
             .and(Ok(Begun::Running(form_of(draft), node))),
-        Err(name) => begin_nothing(number, name, text),
+        Err(name) => refuse_to_begin(number, name, text),
     }
 }

@@ -13,7 +13,7 @@ ghost use Rattle.dm_live.specs.Drafts.{settings_of};
 ghost use Rattle.dm_live.specs.Settings.{Settings, no_settings, Sets, specific_word};
 ghost use Rattle.dm_live.specs.Settings.{TellsOne, TellsSpecific, TellsSetting};
 
-use crate::setting_name::{SettingName, read_setting_name, read_vendor_application};
+use crate::setting_name::{SettingName, read_setting_name, read_vendor_application_name};
 use crate::setting_words::{
     push_address, push_name, push_number, set_name, set_number, set_optional_number, set_text,
 };
@@ -73,14 +73,14 @@ impl Draft {
     }
 
     /// The most octets of a message before the capabilities exchange.
-    pub(crate) fn first_max_len(&self) -> u32
+    pub(crate) fn early_message_len(&self) -> u32
         ensures { result ≡ (settings_of self.now).first_max }
     {
         self.first_max
     }
 
     /// The most octets of a message behind the capabilities exchange.
-    pub(crate) fn max_len(&self) -> u32
+    pub(crate) fn most_message_len(&self) -> u32
         ensures { result ≡ (settings_of self.now).most }
     {
         self.most
@@ -98,7 +98,7 @@ impl Draft {
         let Some(word) = left.next() else {
             return Ok(false);
         };
-        match read_vendor_application(word) {
+        match read_vendor_application_name(word) {
             Some(accounting) => self.take_vendor_application(accounting, &mut left),
             None => self.take_setting(word, &mut left),
         }
@@ -172,14 +172,14 @@ impl Draft {
     }
 
     /// The hosts of the peers.
-    pub(crate) fn peers(&self) -> &[Octets]
+    pub(crate) fn peer_hosts(&self) -> &[Octets]
         ensures { result.now ≡ (settings_of self.now).peers }
     {
         self.peers.as_slice()
     }
 
     /// The host of the first peer, an empty name where there is none.
-    fn first_peer(&self) -> &[u8]
+    fn first_peer_host(&self) -> &[u8]
         ensures { result.now ≡ first_told (settings_of self.now).peers }
     {
         match self.peers.first() {
@@ -228,7 +228,7 @@ impl Draft {
         ensures fault { IfOk result (λ made. IfErr made (λ name. peers_fault (settings_of self.now).host []
             (hosts_told (settings_of self.now).peers) ≡ Some name.now)) }
     {
-        let peer = Vec::from_slice(alloc, self.first_peer())?;
+        let peer = Vec::from_slice(alloc, self.first_peer_host())?;
         match Config::new(alloc, node, peer, self.first_id) {
             Ok(config) => Ok(Ok(self.comparing_if_set(config))),
             Err(fault) => Ok(Err(config_fault_name(fault)?)),

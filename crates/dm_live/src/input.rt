@@ -18,31 +18,31 @@ pub fn next_line<R: BufRead>(reader: &mut R, line: &mut Vec<u8>) -> Result<bool,
 {
     line.clear();
     'piece: for _ in 0..u64::MAX {
-        if take_piece(reader, line)? {
-            return Ok(strip_line_end(line));
+        if extend_line(reader, line)? {
+            return Ok(strip_unless_empty(line));
         }
     }
     Err(LiveFault::Read)
 }
 
 /// Appends what the reader has at hand, up to an LF. True behind that, and at the end of the input.
-fn take_piece<R: BufRead>(reader: &mut R, line: &mut Vec<u8>) -> Result<bool, LiveFault>
+fn extend_line<R: BufRead>(reader: &mut R, line: &mut Vec<u8>) -> Result<bool, LiveFault>
     ensures taken { IfOk result (λ done. TakesPiece (R.remaining reader.old) (R.remaining reader.new)
         line.old.items line.new.items done) }
     ensures fault { IfErr result (λ f. (f ≡ LiveFault.Read) ⊎ (f ≡ LiveFault.Memory)) }
 {
     let octets = match reader.fill_buf() {
         Ok(octets) => octets,
-        Err(error) => return retry_if_interrupted(error),
+        Err(error) => return fault_unless_interrupted(error),
     };
-    let (end, done) = piece_end(octets);
+    let (end, done) = line_part_end(octets);
     line.extend_from_slice(&octets[..end])?;
     reader.consume(end);
     Ok(done)
 }
 
 /// Answers false where a read was interrupted, which is made again, and else why it failed.
-fn retry_if_interrupted(error: Error) -> Result<bool, LiveFault>
+fn fault_unless_interrupted(error: Error) -> Result<bool, LiveFault>
     ensures again { IfOk result (λ done. done ≡ false) }
     ensures fault { IfErr result (λ f. (f ≡ LiveFault.Read) ⊎ (f ≡ LiveFault.Memory)) }
 {
@@ -55,7 +55,7 @@ fn retry_if_interrupted(error: Error) -> Result<bool, LiveFault>
 
 /// How many octets there are up to the first LF and with it, or all of them; and whether that was it, or none are
 /// there.
-fn piece_end(octets: &[u8]) -> (usize, bool)
+fn line_part_end(octets: &[u8]) -> (usize, bool)
     ensures bound { result.0 ≤ length octets.now }
     ensures some { 0 < length octets.now → 0 < result.0 }
     ensures stops { StopsAt (take result.0 octets.now) 10 }
@@ -69,7 +69,7 @@ fn piece_end(octets: &[u8]) -> (usize, bool)
 }
 
 /// Takes the end of a line off. False where there is none, as nothing was left.
-fn strip_line_end(line: &mut Vec<u8>) -> bool
+fn strip_unless_empty(line: &mut Vec<u8>) -> bool
     ensures none { result ≡ false → length line.old.items ≡ 0 }
     ensures some { result ≡ true → (0 < length line.old.items) }
     ensures line { result ≡ true → line.new.items ≡ without_end line.old.items }

@@ -54,14 +54,14 @@ impl Live {
             × (string_bytes text.new ≡ string_bytes text.old ++ answer)) }
     {
         if let Begun::Running(form, node) = &mut self.begun {
-            return answer_running(alloc, *form, node, &mut self.answer, number, line, text);
+            return answer_running_line(alloc, *form, node, &mut self.answer, number, line, text);
         }
         if is_go(line) {
             let begun = begin_configured(alloc, &self.draft, number, text)?;
             self.set_begun(begun);
             return Ok(());
         }
-        answer_setting(&mut self.draft, number, line, text)
+        take_or_refuse_line(&mut self.draft, number, line, text)
     }
 
     /// Goes on with what was begun. It takes no memory.
@@ -86,7 +86,7 @@ fn is_go(line: &[u8]) -> bool
 }
 
 /// Goes on with a line that doesn't end the configuration, and answers a bad one.
-fn answer_setting(
+fn take_or_refuse_line(
     draft: &mut Draft,
     number: u64,
     line: &[u8],
@@ -105,7 +105,7 @@ fn answer_setting(
 }
 
 /// Answers whom a neighbour met, or tells the order of a line and answers it, or answers a bad line.
-fn answer_running(
+fn answer_running_line(
     alloc: Global,
     form: Form,
     node: &mut Node,

@@ -1,4 +1,4 @@
-//! The lines of orders.
+//! The lines of orders, read.
 ghost use Rattle.std.specs.Prelude.{◌≡◌, ◌≢◌, IfOk, IfSome, IfNone, MatchOption};
 ghost use Rattle.dm_text.specs.Words.{words};
 ghost use Rattle.dm_live.specs.declared.asked.Asked.{Asked as OneAsked};
@@ -74,13 +74,13 @@ pub fn read_order(alloc: Global, form: Form, line: &[u8]) -> Result<Option<Order
         Some(OrderName::Octets) => read_piece(alloc, form, &mut left),
         Some(OrderName::Submit) => read_submit(alloc, form, &mut left),
         Some(OrderName::Reset) => Ok(read_reset(form, &mut left)),
-        Some(name) => Ok(read_named(form, name, &mut left)),
+        Some(name) => Ok(read_order_of_name(form, name, &mut left)),
         None => Ok(None),
     }
 }
 
 /// The order of this name and of the words behind that; None where these are others.
-fn read_named(form: Form, name: OrderName, left: &mut Words<'_>) -> Option<OrderLine>
+fn read_order_of_name(form: Form, name: OrderName, left: &mut Words<'_>) -> Option<OrderLine>
     requires octets { name ≢ OrderName.Octets }
     requires submit { name ≢ OrderName.Submit }
     requires reset { name ≢ OrderName.Reset }

@@ -58,7 +58,7 @@ fn add_peers(
     ensures fault { IfOk result (λ added. IfErr added (λ name. peers_fault (settings_of draft.now).host []
         (settings_of draft.now).peers ≡ Some name.now)) }
 {
-    let mut rest = draft.peers();
+    let mut rest = draft.peer_hosts();
     'host: while let Some((host, more)) = rest.split_first() {
         if let Err(name) = add_peer(alloc, template, host.as_slice(), node)? {
             return Ok(Err(name));
@@ -85,7 +85,12 @@ pub(crate) fn node_with_peers(
         (settings_of draft.now).peers ≡ Some name.now)) }
 {
     let own = template.node().clone()?;
-    let mut node = Node::new(alloc, own, draft.first_max_len(), draft.max_len());
+    let mut node = Node::new(
+        alloc,
+        own,
+        draft.early_message_len(),
+        draft.most_message_len(),
+    );
     match add_peers(alloc, draft, template, &mut node) {
         Ok(Ok(())) => Ok(Ok(node)),
         Ok(Err(name)) => {

@@ -133,7 +133,11 @@ fn put_vendor_and_firmware(text: &mut String, sender: SenderRef<'_>) -> Result<(
 
 /// Appends the applications and the vendors that the sender supports, and its Origin-State-Id.
 #[tactic(auto, unfolding(crate::specs::SenderLines::ability_lines))]
-fn put_ability(alloc: Global, text: &mut String, sender: SenderRef<'_>) -> Result<(), AllocError>
+fn put_ability_and_state(
+    alloc: Global,
+    text: &mut String,
+    sender: SenderRef<'_>,
+) -> Result<(), AllocError>
     ensures { (l : List Avp) → HasAvps sender.entry l
         → OnOk result (string_bytes text.new ≡ string_bytes text.old ++ ability_lines l) }
 {
@@ -156,7 +160,7 @@ fn put_sender_or_nobody(
         Some(sender) => {
             put_names(text, sender)?;
             put_vendor_and_firmware(text, sender)?;
-            put_ability(alloc, text, sender)
+            put_ability_and_state(alloc, text, sender)
         }
         None => text.push_str("nobody\n"),
     }
@@ -175,7 +179,11 @@ fn put_anew(text: &mut String, is_anew: bool) -> Result<(), AllocError>
 
 /// Appends who the other side is, or that nobody was met, its Origin-State-Id of the time before, and whether it has
 /// begun anew.
-fn put_sender(alloc: Global, text: &mut String, known: &Acquaintance) -> Result<(), AllocError>
+fn put_acquaintance(
+    alloc: Global,
+    text: &mut String,
+    known: &Acquaintance,
+) -> Result<(), AllocError>
     ensures { OnOk result (string_bytes text.new ≡ string_bytes text.old ++ sender_lines known.now) }
 {
     put_sender_or_nobody(alloc, text, known)?;
@@ -194,7 +202,7 @@ pub(crate) fn put_sender_answer(
         ≡ string_bytes text.old ++ sender_answer (option_copied known.entry)) }
 {
     match known {
-        Some(known) => put_sender(alloc, text, known),
+        Some(known) => put_acquaintance(alloc, text, known),
         None => text.push_str("refused NoNeighbour\n"),
     }
 }

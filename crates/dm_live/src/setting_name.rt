@@ -83,7 +83,7 @@ pub(crate) fn read_setting_name(word: &[u8]) -> Option<SettingName>
 
 /// True where the word says that an accounting application of a vendor follows, false where another application of a
 /// vendor; None for any other word.
-pub(crate) fn read_vendor_application(word: &[u8]) -> Option<bool>
+pub(crate) fn read_vendor_application_name(word: &[u8]) -> Option<bool>
     ensures told { IfSome result (λ accounting. word.now ≡ specific_word accounting) }
     ensures none { IfNone result ((accounting : Bool) → word.now ≡ specific_word accounting → ⊥) }
 {

@@ -1,4 +1,4 @@
-//! The states.
+//! The states, and which of them are open or hold a CER.
 
 /// A state of the peer state machine (RFC 6733, 5.6).
 #[derive(Clone, Copy, Debug, PartialEq, Eq)]

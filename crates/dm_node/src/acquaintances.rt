@@ -12,7 +12,7 @@ use dm_wire::Octets;
 use std::alloc::{AllocError, Global};
 
 /// Changes what is known in the place by what came on the connection; nothing where nobody has the place.
-fn meet_in_place(
+fn meet_by_message_if_any(
     place: &mut Option<Acquaintance>,
     exchange: Octets,
     conn: Conn,
@@ -27,7 +27,7 @@ fn meet_in_place(
 }
 
 /// Changes what is known in the place by an event that brought no message; nothing where nobody has the place.
-fn meet_after_in_place(place: &mut Option<Acquaintance>, before: State, peer: &Peer)
+fn meet_by_event_if_any(place: &mut Option<Acquaintance>, before: State, peer: &Peer)
     ensures { place.new ≡ option_map (known_after before peer.now) place.old }
 {
     if let Some(known) = place {
@@ -81,7 +81,7 @@ impl Acquaintances {
     }
 
     /// Puts a place behind the others, in which nobody was met yet. It takes no memory.
-    pub(crate) fn push(&mut self)
+    pub(crate) fn push_place(&mut self)
         requires { HasSparePlace self.old }
         ensures { known_of self.new ≡ with_nobody (known_of self.old) }
     {
@@ -91,12 +91,12 @@ impl Acquaintances {
 
     /// Puts a new place behind the others where the number has none yet: that of a host that was taken in. It takes no
     /// memory.
-    pub(crate) fn give_place(&mut self, index: usize)
+    pub(crate) fn push_place_if_missing(&mut self, index: usize)
         requires { nat_lt index (length (known_of self.old)) ≡ false → HasSparePlace self.old }
         ensures { known_of self.new ≡ given_place index (known_of self.old) }
     {
         if !self.has_place(index) {
-            self.push();
+            self.push_place();
         }
     }
 
@@ -111,7 +111,7 @@ impl Acquaintances {
 
     /// What is known of the neighbour of the number behind what came on the connection
     /// ([`Acquaintance::meet_behind`]). It takes no memory.
-    pub(crate) fn meet_behind(
+    pub(crate) fn meet_by_message(
         &mut self,
         index: usize,
         exchange: Octets,
@@ -123,17 +123,17 @@ impl Acquaintances {
             ≡ with_known index (known_if_any exchange conn before peer.now) (known_of self.old) }
     {
         if index < self.places.len() {
-            meet_in_place(&mut self.places[index], exchange, conn, before, peer);
+            meet_by_message_if_any(&mut self.places[index], exchange, conn, before, peer);
         }
     }
 
     /// What is known of the neighbour of the number behind an event that brought no message
     /// ([`Acquaintance::meet_after`]). It takes no memory.
-    pub(crate) fn meet_after(&mut self, index: usize, before: State, peer: &Peer)
+    pub(crate) fn meet_by_event(&mut self, index: usize, before: State, peer: &Peer)
         ensures { known_of self.new ≡ with_known index (known_after before peer.now) (known_of self.old) }
     {
         if index < self.places.len() {
-            meet_after_in_place(&mut self.places[index], before, peer);
+            meet_by_event_if_any(&mut self.places[index], before, peer);
         }
     }
 }

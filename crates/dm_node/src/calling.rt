@@ -1,23 +1,18 @@
-//! The first message of a connection: who calls, and what a stranger is answered.
-ghost use Rattle.std.specs.Prelude.{◌≡◌, List, IfSome, IfNone, IfOk, OnErr, IsSome, Some, None, All};
+//! Who calls, as the first message of a connection says.
+ghost use Rattle.std.specs.Prelude.{◌≡◌, List, IfSome, IfNone, Some, None};
 ghost use Rattle.std.specs.Option.{option_copied};
 ghost use Rattle.dm_base.specs.Codes.{origin_host};
 ghost use Rattle.dm_base.specs.Kinds.{is_plain};
-ghost use Rattle.dm_node.specs.Calling.{calling_host, is_cer_header, caller_in, caller_of, answer_to};
+ghost use Rattle.dm_node.specs.Calling.{calling_host, is_cer_header, caller_in, caller_of};
 ghost use Rattle.dm_wire.specs.declared.avp.Avp.{Avp};
 ghost use Rattle.dm_wire.specs.Borrowed.{avp_of, Lists};
 ghost use Rattle.dm_wire.specs.Members.{members};
-ghost use Rattle.dm_peer.specs.Spelled.{SendsSpelling};
 ghost use Rattle.dm_wire.specs.Spelling.{SpellsList};
 
-use arrayvec::ArrayVec;
-use dm_base::codes::{CAPABILITIES_EXCHANGE, ORIGIN_HOST, UNKNOWN_PEER};
-use dm_base::{Node, error_answer};
-use dm_dict::NoMemory;
-use dm_peer::{Action, Actions, Conn, read_message, sent_octets};
+use dm_base::codes::{CAPABILITIES_EXCHANGE, ORIGIN_HOST};
+use dm_peer::read_message;
 use dm_wire::laws::members_spell;
 use dm_wire::{AvpRef, AvpsRef, Header, MessageRef};
-use std::alloc::Global;
 
 /// Whether the AVP is an Origin-Host.
 fn is_origin_host(avp: AvpRef<'_>) -> bool
@@ -48,7 +43,7 @@ fn is_cer(header: &Header) -> bool
 }
 
 /// Does nothing: its contract says that octets which spell AVPs are read as those.
-fn spells_list(octets: &[u8])
+fn spelled_avps_are_read(octets: &[u8])
     ensures { (l : List Avp) → SpellsList l octets.now → members octets.now ≡ Some l }
 {
     members_spell();
@@ -64,7 +59,7 @@ fn caller_in<'a>(message: &MessageRef<'a>) -> Option<(Header, &'a [u8])>
     if !is_cer(&message.header) {
         return None;
     }
-    spells_list(message.rest);
+    spelled_avps_are_read(message.rest);
     match calling_host(AvpsRef::Spelled(message.rest)) {
         Some(host) => Some((message.header, host)),
         None => None,
@@ -81,25 +76,4 @@ pub(crate) fn caller<'a>(octets: &'a [u8]) -> Option<(Header, &'a [u8])>
         Some(message) => caller_in(&message),
         None => None,
     }
-}
-
-/// What is done on a stranger's connection: an answer 3010 (DIAMETER_UNKNOWN_PEER) to a CER, and a Close. Only the
-/// answer may want memory.
-pub(crate) fn answer_to(
-    alloc: Global,
-    own: &Node,
-    conn: Conn,
-    octets: &[u8],
-) -> Result<Actions, NoMemory>
-    ensures answer { IfOk result (λ actions. actions.items ≡ answer_to own.now conn (caller_of octets.now)) }
-    ensures spelled { IfOk result (λ actions. All SendsSpelling actions.items) }
-    ensures memory { OnErr result (IsSome (caller_of octets.now)) }
-{
-    let mut actions = ArrayVec::new();
-    if let Some((header, _)) = caller(octets) {
-        let answer = error_answer(alloc, own, &header, UNKNOWN_PEER)?;
-        actions.push(Action::Send(conn, sent_octets(alloc, &answer)?));
-    }
-    actions.push(Action::Close(conn));
-    Ok(actions)
 }

@@ -4,7 +4,7 @@ ghost use Rattle.std.specs.Prelude.{◌≡◌, ◌<◌, IfSome, IfNone, length, 
 use dm_peer::Peer;
 
 /// One more than there were, which is no more than there are places.
-pub(crate) fn count_added(peers: &[Option<Peer>], before: usize) -> usize
+pub(crate) fn count_after_adding(peers: &[Option<Peer>], before: usize) -> usize
     requires { before < length peers.now }
     ensures { result ≡ suc before }
 {
@@ -13,7 +13,7 @@ pub(crate) fn count_added(peers: &[Option<Peer>], before: usize) -> usize
 }
 
 /// One less than there were, where one is gone.
-pub(crate) fn count_removed(gone: &Option<Peer>, before: usize) -> usize
+pub(crate) fn count_after_removing(gone: &Option<Peer>, before: usize) -> usize
     requires { IfSome gone.now (λ _. 0 < before) }
     ensures gone { IfSome gone.now (λ _. before ≡ suc result) }
     ensures nobody { IfNone gone.now (result ≡ before) }

@@ -1,6 +1,10 @@
 //! What a node is told.
+ghost use Rattle.std.specs.Prelude.{◌≡◌};
+ghost use Rattle.dm_node.specs.Telling.{told_of};
+ghost use Rattle.dm_peer.specs.Events.{event_told};
+
 use dm_base::Cause;
-use dm_peer::Conn;
+use dm_peer::{Conn, Event};
 
 /// One thing that happens to a node. A neighbour is named by its number, in order of adding; connections have one space
 /// of numbers for the whole node.
@@ -24,4 +28,21 @@ pub enum NodeEvent<'a> {
     Arrived(Conn, &'a [u8]),
     /// The other side closed the connection, or it was lost.
     Gone(Conn),
+}
+
+/// The event as its neighbour is told it.
+pub(crate) fn peer_event<'a>(event: NodeEvent<'a>) -> Event<'a>
+    ensures { event_told result ≡ told_of event.entry }
+{
+    match event {
+        NodeEvent::Start(_, conn) => Event::Start(conn),
+        NodeEvent::Stop(_, cause) => Event::Stop(cause),
+        NodeEvent::Timeout(_) => Event::Timeout,
+        NodeEvent::Tick(_) => Event::Tick,
+        NodeEvent::Submit(_, octets) => Event::Submit(octets),
+        NodeEvent::Ack(conn) => Event::Ack(conn),
+        NodeEvent::Nack(conn) => Event::Nack(conn),
+        NodeEvent::Arrived(conn, octets) => Event::Arrived(conn, octets),
+        NodeEvent::Gone(conn) => Event::Gone(conn),
+    }
 }

@@ -8,7 +8,7 @@ ghost use Rattle.dm_node.specs.NodeSeen.{node_state_of, node_known_of};
 ghost use Rattle.dm_node.specs.Answers.{IsUntold, turn_in};
 ghost use Rattle.dm_slots.specs.Hearing.{TakesFrontAt, IsNotWhole};
 
-use crate::settling::settle;
+use crate::settling::settle_connections;
 use crate::telling::tell_message;
 use crate::{Answer, Node, Strangers, Told};
 use dm_machine::Conn;
@@ -70,7 +70,7 @@ impl Node {
                 answer,
             ) {
                 Ok(before) => {
-                    settle(
+                    settle_connections(
                         &self.neighbours,
                         &mut self.intakes,
                         before,
@@ -85,12 +85,12 @@ impl Node {
                     Err(error)
                 }
             },
-            None => self.hear_kept(alloc, strangers, conn, piece, answer),
+            None => self.keep_front_and_tell(alloc, strangers, conn, piece, answer),
         }
     }
 
     /// Keeps of the piece what its first message wants, and tells what stands at the front then, if anything does.
-    fn hear_kept<S: Strangers>(
+    fn keep_front_and_tell<S: Strangers>(
         &mut self,
         alloc: Global,
         strangers: &S,

@@ -60,7 +60,7 @@ impl Hosts {
     }
 
     /// Notes the number for a host in lower case.
-    fn put_lower_host(&mut self, key: &[u8], index: usize) -> Result<(), NoMemory>
+    fn note_lower_host(&mut self, key: &[u8], index: usize) -> Result<(), NoMemory>
         ensures noted { OnOk result ((h : List ℕ)
             → noted_number self.new h ≡ if is_host key.now h then Some index else noted_number self.old h) }
         ensures unchanged { OnErr result ((h : List ℕ) → noted_number self.new h ≡ noted_number self.old h) }
@@ -78,7 +78,7 @@ impl Hosts {
         ensures unchanged { OnErr result ((h : List ℕ) → noted_number self.new h ≡ noted_number self.old h) }
     {
         match lower_host(host) {
-            Some(key) => self.put_lower_host(key.as_slice(), index),
+            Some(key) => self.note_lower_host(key.as_slice(), index),
             None => unreachable!(),
         }
     }

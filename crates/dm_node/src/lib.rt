@@ -26,10 +26,10 @@ mod removal_and_reset;
 mod reserved_place;
 mod routing;
 mod settling;
+mod stranger_events;
 mod strangers;
 mod taken_orders;
 mod telling;
-mod unknown;
 
 pub use alone::Alone;
 pub use answer::{Answer, Told};

@@ -15,7 +15,7 @@ use std::alloc::{AllocError, Global};
 
 /// A copy of the octets, where they are a CER or CEA and are told in a state that isn't open, and room for a neighbour
 /// more then; else no octets.
-pub(crate) fn copy_exchange(
+pub(crate) fn copy_exchange_and_reserve(
     alloc: Global,
     known: &mut Acquaintances,
     before: State,
@@ -37,7 +37,7 @@ pub(crate) fn copy_exchange(
 
 /// Changes what is known of the neighbour that was told what came on the connection: `who`, if one was. What is known
 /// of one that was open before stays.
-pub(crate) fn meet_behind(
+pub(crate) fn meet_by_message(
     neighbours: &Neighbours,
     known: &mut Acquaintances,
     who: Option<usize>,
@@ -56,16 +56,16 @@ pub(crate) fn meet_behind(
         return;
     }
     if let Some(index) = who {
-        known.give_place(index);
+        known.push_place_if_missing(index);
         if let Some(peer) = neighbours.peer(index) {
-            known.meet_behind(index, exchange, conn, before, peer);
+            known.meet_by_message(index, exchange, conn, before, peer);
         }
     }
 }
 
 /// Changes what is known of the neighbour that was told an event that brought no message: `who`, if one was. What is
 /// known of one that was open before stays.
-pub(crate) fn meet_after(
+pub(crate) fn meet_by_event(
     neighbours: &Neighbours,
     known: &mut Acquaintances,
     who: Option<usize>,
@@ -78,7 +78,7 @@ pub(crate) fn meet_after(
     if !before.is_open() {
         if let Some(index) = who {
             if let Some(peer) = neighbours.peer(index) {
-                known.meet_after(index, before, peer);
+                known.meet_by_event(index, before, peer);
             }
         }
     }

@@ -59,7 +59,7 @@ fn push_close(actions: &mut Actions, conn: Option<Conn>)
 
 /// Why a neighbour of this configuration isn't added where memory is wanted: `Known` where a neighbour has its host,
 /// else `NoMemory`.
-fn add_fault(neighbours: &Neighbours, config: &Config) -> AddFault
+fn fault_of_adding(neighbours: &Neighbours, config: &Config) -> AddFault
     ensures known { (result ≡ add_faults.Known) ↔ IsKnown neighbours.now config.now.peer }
     ensures refuses { (result ≡ add_faults.Known) ⊎ (result ≡ add_faults.NoMemory) }
 {
@@ -89,12 +89,12 @@ fn add_neighbour(
     match known.reserve() {
         Ok(()) => match neighbours.add(config) {
             Ok(index) => {
-                known.push();
+                known.push_place();
                 Ok(index)
             }
             Err(fault) => Err(fault),
         },
-        Err(_) => Err(add_fault(neighbours, &config)),
+        Err(_) => Err(fault_of_adding(neighbours, &config)),
     }
 }
 

@@ -3,9 +3,9 @@ ghost use Rattle.dm_node.specs.Neighbourhoods.{IsNeighbourhood};
 ghost use Rattle.dm_node.specs.NodeHeld.{AreKept};
 
 use crate::AddFault;
-use crate::counting::{count_added, count_removed};
+use crate::counting::{count_after_adding, count_after_removing};
 use crate::hosts::Hosts;
-use crate::owners::{Holding, Snapshot, any_holding};
+use crate::owners::{Holding, Snapshot, holding_if_any};
 use crate::peer_by_number::peer_at;
 use crate::removal_and_reset::{set_back_one, set_back_peers, take_out};
 use crate::reserved_place::reserve_place;
@@ -85,7 +85,7 @@ impl Neighbours {
         match reserve_place(&mut self.peers, &mut self.hosts, peer.config()) {
             Ok(()) => {
                 self.peers.push_reserved(Some(peer));
-                self.present = count_added(&self.peers, self.present);
+                self.present = count_after_adding(&self.peers, self.present);
                 Ok(index)
             }
             Err(fault) => Err(fault),
@@ -153,11 +153,12 @@ impl Neighbours {
         ensures closes { close_if_any result.initiated ++ close_if_any result.accepted
             ≡ closes_of_any (peer_at self.now index) }
     {
-        any_holding(self.peer(index))
+        holding_if_any(self.peer(index))
     }
 
-    /// The neighbour that an event concerns; None where it concerns none. It never answers want of memory.
-    pub(crate) fn concerned(&self, who: Option<usize>) -> Option<&Peer>
+    /// The neighbour of the number, if there is a number and a neighbour has it: that which an event concerns. It never
+    /// answers want of memory.
+    pub(crate) fn peer_if_any(&self, who: Option<usize>) -> Option<&Peer>
         ensures { option_copied result ≡ concerned_in self.now who }
     {
         match who {
@@ -174,8 +175,8 @@ impl Neighbours {
         ensures initiated { result.held.initiated ≡ initiated_of (concerned_in self.now who) }
         ensures accepted { result.held.accepted ≡ accepted_of (concerned_in self.now who) }
     {
-        let peer = self.concerned(who);
-        let held = any_holding(peer);
+        let peer = self.peer_if_any(who);
+        let held = holding_if_any(peer);
         match peer {
             Some(peer) => Snapshot {
                 state: peer.state(),
@@ -197,7 +198,7 @@ impl Neighbours {
     {
         let gone = take_out(&mut self.peers, index);
         self.hosts.forget_peer(&gone);
-        self.present = count_removed(&gone, self.present);
+        self.present = count_after_removing(&gone, self.present);
         gone
     }
 

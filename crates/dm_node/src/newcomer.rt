@@ -14,7 +14,7 @@ ghost use Rattle.dm_peer.specs.declared.fault.PeerFault.TheVariants as peer_faul
 
 use crate::OrderFault;
 use crate::neighbours::Neighbours;
-use crate::unknown::StrangerActions;
+use crate::stranger_events::StrangerActions;
 use dm_machine::laws::each_opening_has_its_message;
 use dm_peer::laws::each_event_is_one_step;
 use dm_peer::{Actions, Config, Conn, Event, Peer, PeerFault, State};
@@ -52,7 +52,7 @@ fn tell_newcomer(
 }
 
 /// The peer becomes a neighbour, unless it is Closed.
-fn add_newcomer(
+fn add_unless_closed(
     neighbours: &mut Neighbours,
     newcomer: Newcomer,
 ) -> Result<StrangerActions, OrderFault>
@@ -102,7 +102,7 @@ pub(crate) fn welcome(
     ensures unchanged { OnErr result (neighbours.new ≡ neighbours.old) }
 {
     match tell_newcomer(alloc, config, conn, octets) {
-        Ok(newcomer) => add_newcomer(neighbours, newcomer),
+        Ok(newcomer) => add_unless_closed(neighbours, newcomer),
         Err(fault) => Err(OrderFault::Peer(fault)),
     }
 }

@@ -6,7 +6,7 @@ ghost use Rattle.dm_node.specs.NodeKnown.{known_of, AreKnown};
 
 use crate::acquaintances::Acquaintances;
 use crate::neighbours::Neighbours;
-use crate::settling::settle;
+use crate::settling::settle_connections;
 use crate::telling::{tell_event, tell_message};
 use crate::{Answer, NodeEvent, Strangers, Told};
 use dm_machine::{Conn, State};
@@ -228,7 +228,7 @@ impl Node {
         ) {
             Ok(before) => {
                 self.intakes.break_off(alloc, conn);
-                settle(
+                settle_connections(
                     &self.neighbours,
                     &mut self.intakes,
                     before,
@@ -305,7 +305,7 @@ impl Node {
             ) {
                 Ok(before) => {
                     self.intakes.skip(conn);
-                    settle(
+                    settle_connections(
                         &self.neighbours,
                         &mut self.intakes,
                         before,

@@ -13,8 +13,8 @@ ghost use Rattle.dm_peer.specs.Spelled.{SendsSpelling};
 ghost use Rattle.dm_peer.specs.declared.fault.PeerFault.{PeerFault};
 ghost use Rattle.dm_peer.specs.declared.fault.PeerFault.TheVariants as peer_faults;
 
+use crate::events::peer_event;
 use crate::neighbours::{Neighbours, neighbours_are_sound};
-use crate::routing::peer_event;
 use crate::{Answer, NodeEvent, OrderFault};
 use dm_machine::laws::each_opening_has_its_message;
 use dm_peer::laws::{each_event_is_one_step, every_peer_is_kept};

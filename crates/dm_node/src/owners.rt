@@ -62,7 +62,7 @@ fn peer_holding(peer: &Peer) -> Holding
 }
 
 /// What a neighbour holds, where there is one.
-pub(crate) fn any_holding(peer: Option<&Peer>) -> Holding
+pub(crate) fn holding_if_any(peer: Option<&Peer>) -> Holding
     ensures holds { (c : Conn) → has result c ≡ holds_it c (option_copied peer.entry) }
     ensures closes { close_if_any result.initiated ++ close_if_any result.accepted
         ≡ closes_of_any (option_copied peer.entry) }

@@ -1,4 +1,4 @@
-//! Neighbours that are taken out, or set back to Closed.
+//! Peers in the list of neighbours, taken out by number or set back to Closed.
 ghost use Rattle.std.specs.Prelude.{◌≡◌, option_map};
 ghost use Rattle.dm_node.specs.Emptying.{without_peer, set_back, with_set_back, all_set_back};
 ghost use Rattle.dm_node.specs.Holding.{peer_at};

@@ -5,32 +5,14 @@ ghost use Rattle.dm_node.specs.Owning.{AreOwned};
 ghost use Rattle.dm_slots.specs.Held.{owners_of};
 ghost use Rattle.dm_node.specs.Telling.{told_of, IsCallOf, IsPorter, IsFirstFor, IsAddressed};
 ghost use Rattle.dm_node.specs.Telling.{Concerns, IsAlone, IsMisdirected, StartsFree};
-ghost use Rattle.dm_peer.specs.Events.{event_told};
 ghost use Rattle.dm_node.specs.declared.fault.OrderFault.{OrderFault};
 ghost use Rattle.dm_node.specs.declared.fault.OrderFault.TheVariants.{NoNeighbour};
 
 use crate::calling::caller;
 use crate::neighbours::Neighbours;
 use crate::{NodeEvent, OrderFault, Strangers};
-use dm_peer::{Conn, Event};
+use dm_peer::Conn;
 use dm_slots::Slots;
-
-/// The event as its neighbour is told it.
-pub(crate) fn peer_event<'a>(event: NodeEvent<'a>) -> Event<'a>
-    ensures { event_told result ≡ told_of event.entry }
-{
-    match event {
-        NodeEvent::Start(_, conn) => Event::Start(conn),
-        NodeEvent::Stop(_, cause) => Event::Stop(cause),
-        NodeEvent::Timeout(_) => Event::Timeout,
-        NodeEvent::Tick(_) => Event::Tick,
-        NodeEvent::Submit(_, octets) => Event::Submit(octets),
-        NodeEvent::Ack(conn) => Event::Ack(conn),
-        NodeEvent::Nack(conn) => Event::Nack(conn),
-        NodeEvent::Arrived(conn, octets) => Event::Arrived(conn, octets),
-        NodeEvent::Gone(conn) => Event::Gone(conn),
-    }
-}
 
 /// The neighbour whose host's CER the octets are; None where they are no neighbour's.
 fn calling_neighbour(neighbours: &Neighbours, octets: &[u8]) -> Option<usize>

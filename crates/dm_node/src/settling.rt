@@ -18,7 +18,7 @@ use dm_slots::laws::what_is_there_stays;
 /// Brings the connections up to date once an event was told: notes what its neighbour owns, which held `before`,
 /// forgets what the answer closes, and lets what an open neighbour holds take messages of at most `most` octets.
 #[inline(always)]
-pub(crate) fn settle(
+pub(crate) fn settle_connections(
     neighbours: &Neighbours,
     slots: &mut Slots,
     before: Holding,

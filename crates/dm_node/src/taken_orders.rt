@@ -23,7 +23,7 @@ ghost use Rattle.dm_node.specs.NodeSeen.{node_state_of, node_known_of};
 ghost use Rattle.dm_node.specs.Answers.{IsUntold, asks_of};
 
 use crate::neighbours::neighbours_are_sound;
-use crate::settling::settle;
+use crate::settling::settle_connections;
 use crate::telling::tell_event;
 use crate::{Answer, Node, NodeEvent, Order, OrderFault, Told};
 use dm_machine::{Conn, State};
@@ -129,15 +129,17 @@ impl Node {
                 Err(_) => Err(OrderFault::Peer(PeerFault::NoMemory)),
             },
             Order::Gone(conn) => self.gone(alloc, conn, answer),
-            Order::Timeout(index) => self.tell_ordered(alloc, NodeEvent::Timeout(index), answer),
-            Order::Tick(index) => self.tell_ordered(alloc, NodeEvent::Tick(index), answer),
-            Order::Stop(index, cause) => self.tell_ordered(
+            Order::Timeout(index) => {
+                self.tell_order_event(alloc, NodeEvent::Timeout(index), answer)
+            }
+            Order::Tick(index) => self.tell_order_event(alloc, NodeEvent::Tick(index), answer),
+            Order::Stop(index, cause) => self.tell_order_event(
                 alloc,
                 NodeEvent::Stop(index, cause),
                 answer,
             ),
             Order::Submit(index, octets) => {
-                self.tell_ordered(alloc, NodeEvent::Submit(index, octets), answer)
+                self.tell_order_event(alloc, NodeEvent::Submit(index, octets), answer)
             }
             Order::Reset(index) => {
                 self.set_back(index);
@@ -151,7 +153,7 @@ impl Node {
     }
 
     /// Tells an event of an order, which names no connection that isn't there.
-    fn tell_ordered(
+    fn tell_order_event(
         &mut self,
         alloc: Global,
         event: NodeEvent<'_>,
@@ -185,7 +187,7 @@ impl Node {
             answer,
         ) {
             Ok(before) => {
-                settle(
+                settle_connections(
                     &self.neighbours,
                     &mut self.intakes,
                     before,
@@ -226,14 +228,14 @@ impl Node {
         ensures spelled { OnOk result (All SendsSpelling answer.new.actions.items) }
     {
         if self.has(conn) {
-            self.tell_ordered(alloc, event, answer)
+            self.tell_order_event(alloc, event, answer)
         } else {
             Ok(())
         }
     }
 
     /// Forgets the connection, unless a neighbour holds it. It never answers want of memory.
-    fn shut_unheld(&mut self, conn: Conn)
+    fn shut_unless_held(&mut self, conn: Conn)
         ensures shut { ShutsUnheld conn (node_state_of self.old) (node_state_of self.new) }
         ensures known { node_known_of self.new ≡ node_known_of self.old }
     {
@@ -262,7 +264,7 @@ impl Node {
     {
         match self.tell_if_there(alloc, conn, NodeEvent::Nack(conn), answer) {
             Ok(()) => {
-                self.shut_unheld(conn);
+                self.shut_unless_held(conn);
                 Ok(())
             }
             Err(fault) => Err(fault),
@@ -345,7 +347,7 @@ impl Node {
             return Err(fault);
         }
         match self.open(alloc, conn) {
-            Ok(()) => match self.tell_ordered(alloc, NodeEvent::Start(index, conn), answer) {
+            Ok(()) => match self.tell_order_event(alloc, NodeEvent::Start(index, conn), answer) {
                 Ok(()) => Ok(()),
                 Err(fault) => {
                     self.shut(conn);

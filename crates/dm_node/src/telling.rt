@@ -18,12 +18,12 @@ ghost use Rattle.dm_slots.specs.Intakes.{Intakes as AllIntakes, actions_close};
 ghost use Rattle.dm_slots.specs.Naming.{NamesThere};
 
 use crate::acquaintances::Acquaintances;
-use crate::meeting::{copy_exchange, meet_after, meet_behind};
+use crate::meeting::{copy_exchange_and_reserve, meet_by_event, meet_by_message};
 use crate::neighbours::{Neighbours, neighbours_are_sound};
 use crate::one_told::tell_one;
 use crate::owners::Holding;
 use crate::routing::concerned_neighbour;
-use crate::unknown::tell_unknown;
+use crate::stranger_events::handle_stranger_event;
 use crate::{Answer, NodeEvent, OrderFault, Strangers};
 use dm_base::Node;
 use dm_machine::Conn;
@@ -38,7 +38,7 @@ use std::alloc::{AllocError, Global};
 /// What the node does at the event, which is of this neighbour, or of none, put into `answer`, whose actions are none
 /// before.
 #[inline(always)]
-fn tell_one_or_unknown<S: Strangers>(
+fn tell_one_or_handle_stranger<S: Strangers>(
     alloc: Global,
     own: &Node,
     neighbours: &mut Neighbours,
@@ -59,7 +59,7 @@ fn tell_one_or_unknown<S: Strangers>(
     neighbours_are_sound(neighbours);
     match who {
         Some(index) => tell_one(alloc, neighbours, index, event, answer),
-        None => tell_unknown(alloc, own, neighbours, strangers, event, answer),
+        None => handle_stranger_event(alloc, own, neighbours, strangers, event, answer),
     }
 }
 
@@ -98,7 +98,7 @@ fn tell_neighbours<S: Strangers>(
     each_opening_has_its_message();
     refusals_go_by_rule();
     neighbours_are_sound(neighbours);
-    match tell_one_or_unknown(alloc, own, neighbours, strangers, who, event, answer) {
+    match tell_one_or_handle_stranger(alloc, own, neighbours, strangers, who, event, answer) {
         Ok(()) => Ok(()),
         Err(fault) => Err(fault),
     }
@@ -144,13 +144,13 @@ pub(crate) fn tell_message<S: Strangers>(
         Err(_) => unreachable!(),
     };
     let before = neighbours.snapshot(who);
-    let exchange = match copy_exchange(alloc, known, before.state, octets) {
+    let exchange = match copy_exchange_and_reserve(alloc, known, before.state, octets) {
         Ok(exchange) => exchange,
         Err(error) => return Err(error),
     };
     match tell_neighbours(alloc, own, neighbours, strangers, who, event, answer) {
         Ok(()) => {
-            meet_behind(
+            meet_by_message(
                 neighbours,
                 known,
                 answer.neighbour,
@@ -212,7 +212,7 @@ pub(crate) fn tell_event<S: Strangers>(
     let before = neighbours.snapshot(who);
     match tell_neighbours(alloc, own, neighbours, strangers, who, event, answer) {
         Ok(()) => {
-            meet_after(neighbours, known, answer.neighbour, before.state);
+            meet_by_event(neighbours, known, answer.neighbour, before.state);
             Ok(before.held)
         }
         Err(fault) => Err(fault),

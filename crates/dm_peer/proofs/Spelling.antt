@@ -7,7 +7,7 @@ use Rattle.dm_wire.specs.Limits.{HeaderFits}
 use Rattle.dm_wire.specs.Spelling.{SpellsMessage}
 use Rattle.dm_wire.specs.Whole.{message_in}
 use Rattle.dm_machine.specs.Moves as moves
-use Rattle.dm_peer.specs.declared.commands.Request.{Request}
+use Rattle.dm_peer.specs.declared.requests.Request.{Request}
 use Rattle.dm_peer.specs.declared.peer.Peer.{Peer}
 use Rattle.dm_peer.specs.Events.{PeerEvent, Start, Arrived, Submit, octets_in}
 use Rattle.dm_peer.specs.Configs.{wins}

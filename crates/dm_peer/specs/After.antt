@@ -16,8 +16,8 @@ use Rattle.dm_machine.specs.Moves.{is_open}
 use Rattle.dm_machine.specs.Awaiting.{awaits_cea, awaits_dwa, awaits_dpa, number_after, waiting_after}
 use Rattle.dm_peer.specs.declared.standing.Awaited.{Awaited}
 use Rattle.dm_peer.specs.declared.standing.Standing.{Standing}
-use Rattle.dm_peer.specs.declared.commands.Request.{Request}
-use Rattle.dm_peer.specs.declared.commands.Request.TheVariants as request
+use Rattle.dm_peer.specs.declared.requests.Request.{Request}
+use Rattle.dm_peer.specs.declared.requests.Request.TheVariants as request
 use Rattle.dm_peer.specs.Said.{Heard, word_heard, header_heard}
 
 abbrev pub nothing_awaited : Awaited

@@ -17,7 +17,7 @@ ghost use Rattle.dm_peer.specs.Sent.{
 
 use crate::heard_message::{HeardRef, fault_of_heard, header_heard_or_zeros};
 use crate::sending::{
-    push_send, push_send_cea, push_send_cer, push_send_dpr, push_send_dwr, push_send_success,
+    push_send, push_send_cea, push_send_cer, push_send_dpr, push_send_dwa_or_dpa, push_send_dwr,
     refusing_answer,
 };
 use crate::{Action, Actions, Event, Peer};
@@ -118,7 +118,7 @@ fn push_action(
             push_send_cea(alloc, conn, node, &to, actions)?
         }
         Command::SendDwa(conn) | Command::SendDpa(conn) => {
-            push_send_success(alloc, conn, node, &header_heard_or_zeros(heard), actions)?
+            push_send_dwa_or_dpa(alloc, conn, node, &header_heard_or_zeros(heard), actions)?
         }
         Command::SendRefusal(conn) => push_send_refusal(alloc, conn, node, heard, actions)?,
         Command::SendSubmit(conn) => actions.push(Action::Send(

@@ -28,19 +28,19 @@ pub enum Event<'a> {
     Submit(&'a [u8]),
 }
 
-/// Each number of a slice of octets is below 256.
-fn are_octets(octets: &[u8])
+/// Does nothing: its contract says that each number of a slice of octets is below 256.
+fn octets_are_in_range(octets: &[u8])
     ensures { AreOctets octets.now }
 {
     let _octets = octets.len();
 }
 
-/// What an event brings are octets.
-pub(crate) fn brings_octets(event: Event<'_>)
+/// Does nothing: its contract says that each number of the octets that an event brings is below 256.
+pub(crate) fn event_octets_are_in_range(event: Event<'_>)
     ensures { AreOctets (octets_in (event_told event.entry)) }
 {
     match event {
-        Event::Arrived(_, octets) | Event::Submit(octets) => are_octets(octets),
+        Event::Arrived(_, octets) | Event::Submit(octets) => octets_are_in_range(octets),
         _ => {}
     }
 }

@@ -129,7 +129,7 @@ fn sender_host<'a>(message: &MessageRef<'a>) -> &'a [u8]
 }
 
 /// Whether hosts are compared, and the message's sender isn't the configured peer.
-fn is_other_sender(config: &Config, message: &MessageRef<'_>) -> bool
+fn fails_host_comparison(config: &Config, message: &MessageRef<'_>) -> bool
     ensures { (l : List Avp) → SpellsList l message.now.rest.now
         → result ≡ is_other_sender config.now (record { header = message.now.header; avps = l }) }
 {
@@ -143,7 +143,7 @@ fn word_of_cea(config: &Config, message: &MessageRef<'_>, code: u32) -> Word
     ensures { (l : List Avp) → SpellsList l message.now.rest.now
         → result ≡ word_of_cea config.now (record { header = message.now.header; avps = l }) code }
 {
-    if is_other_sender(config, message) {
+    if fails_host_comparison(config, message) {
         Word::CeaFailed
     } else {
         word_of_cea_code(code)

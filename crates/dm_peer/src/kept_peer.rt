@@ -7,7 +7,7 @@ ghost use Rattle.dm_peer.specs.Events.{Arrived, event_told};
 ghost use Rattle.dm_peer.specs.Spelled.{SendsSpelling};
 ghost use Rattle.dm_peer.specs.Strangers.{AreStrange, TurnsAway};
 
-use crate::events::brings_octets;
+use crate::events::event_octets_are_in_range;
 use crate::laws::{each_event_keeps_settled, each_send_is_spelled, strangers_change_nothing};
 use crate::standing::{Kept, Standing};
 use crate::steps::handle_event;
@@ -27,7 +27,7 @@ pub(crate) fn kept_standing(
 {
     each_event_keeps_settled();
     each_send_is_spelled();
-    brings_octets(event);
+    event_octets_are_in_range(event);
     let _kept = peer.standing.get();
     Kept::new(standing)
 }
@@ -51,7 +51,7 @@ pub(crate) fn handle_event_of_kept_peer(
 {
     each_send_is_spelled();
     strangers_change_nothing();
-    brings_octets(event);
+    event_octets_are_in_range(event);
     let _kept = peer.standing.get();
     handle_event(alloc, peer, event, actions)
 }

@@ -5,7 +5,6 @@
 mod actions;
 mod arrivals;
 mod command_actions;
-mod commands;
 mod config;
 mod events;
 mod fault;
@@ -15,6 +14,7 @@ pub mod laws;
 mod message;
 mod next_standing;
 mod peer;
+mod requests;
 mod sending;
 mod shared;
 mod standing;

@@ -7,9 +7,9 @@ ghost use Rattle.dm_peer.specs.Events.{event_told};
 ghost use Rattle.dm_peer.specs.Lent.{heard_by};
 ghost use Rattle.dm_peer.specs.Said.{Heard, word_heard};
 
-use crate::commands::Request;
 use crate::heard_message::{HeardRef, header_heard, word_heard};
 use crate::kept_peer::kept_standing;
+use crate::requests::Request;
 use crate::standing::{Awaited, Standing};
 use crate::{Actions, Event, Peer};
 use dm_machine::{Core, State, Word};

@@ -108,7 +108,7 @@ fn dwa_or_dpa_octets(alloc: Global, node: &Node, to: &Header) -> Result<Octets, 
 }
 
 /// Appends the sending of a DWA or DPA of success to a request of this header; or want of memory.
-pub(crate) fn push_send_success(
+pub(crate) fn push_send_dwa_or_dpa(
     alloc: Global,
     conn: Conn,
     node: &Node,

@@ -25,10 +25,10 @@ ghost use Rattle.dm_peer.specs.Lent.{heard_by};
 
 use crate::arrivals::{Footing, connection_footing, is_dropped, is_unread};
 use crate::command_actions::push_actions;
-use crate::commands::first_request;
 use crate::heard_message::{HeardRef, hear_message, heard_as_good, word_heard};
 use crate::message::read_message;
 use crate::next_standing::set_standing_after_step;
+use crate::requests::first_request;
 use crate::{Actions, Config, Event, Peer, PeerFault};
 use dm_base::is_base_command;
 use dm_machine::laws::each_state_decides;

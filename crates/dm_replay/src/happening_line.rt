@@ -1,4 +1,4 @@
-//! The lines of happenings.
+//! The lines of happenings, read.
 ghost use Rattle.std.specs.Prelude.{◌≡◌, ◌≢◌, IfOk, IfSome, IfNone, MatchOption};
 ghost use Rattle.dm_text.specs.Words.{words};
 ghost use Rattle.dm_world.specs.declared.happening.Happening.{Happening};
@@ -26,13 +26,13 @@ pub fn read_happening(alloc: Global, line: &[u8]) -> Result<Option<Happening>, A
     };
     match read_verb(word) {
         Some(Verb::Submit) => read_submit(alloc, &mut left),
-        Some(verb) => Ok(read_arguments(verb, &mut left)),
+        Some(verb) => Ok(read_happening_of_verb(verb, &mut left)),
         None => Ok(None),
     }
 }
 
 /// The happening of a verb and its arguments; None where these are others.
-fn read_arguments(verb: Verb, left: &mut Words<'_>) -> Option<Happening>
+fn read_happening_of_verb(verb: Verb, left: &mut Words<'_>) -> Option<Happening>
     requires { verb ≢ Verb.Submit }
     ensures verb { IfSome result (λ h. verb_of h ≡ verb) }
     ensures told { IfSome result (λ h. TellsArguments h (words left.old)) }

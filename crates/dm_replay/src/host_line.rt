@@ -1,4 +1,4 @@
-//! The lines of the two peers.
+//! The lines of the two peers, read.
 ghost use Rattle.std.specs.Prelude.{◌≡◌, ◌∷◌, [], ℕ, List, codes, IfSome, IfNone};
 ghost use Rattle.dm_text.specs.Words.{words};
 ghost use Rattle.dm_text.specs.Numbers.{TellsNumber};

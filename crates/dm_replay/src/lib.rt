@@ -14,14 +14,12 @@ mod replay_lines;
 mod script;
 mod script_lines;
 mod verb;
-mod whole_script;
 
 pub use crate::fault::ScriptFault;
 pub use crate::happening_list::HappeningList;
 pub use crate::host_line::HostLine;
 pub use crate::replay::replay_text;
 pub use crate::replay_lines::trace;
-pub use crate::script::Script;
+pub use crate::script::{Script, read_script};
 pub use crate::script_lines::{ScriptLines, read_lines};
-pub use crate::whole_script::read_script;
 pub use dm_world::{Happening, Side};

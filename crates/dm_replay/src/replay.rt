@@ -6,8 +6,7 @@ ghost use Rattle.dm_replay.specs.Replay.{replay_from, script_text, text_of, Repl
 
 use crate::fault::ScriptFault;
 use crate::replay_lines::{push_end_line, push_nolink_line, push_trace};
-use crate::script::Script;
-use crate::whole_script::read_script;
+use crate::script::{Script, read_script};
 use dm_dict::NoMemory;
 use dm_text::push_syntax_fault;
 use dm_world::{Happening, NewFault, World, WorldFault};
@@ -23,7 +22,7 @@ pub fn replay_text(alloc: Global, text: &[u8]) -> Result<(Vec<u8>, bool), NoMemo
 {
     match read_script(alloc, text) {
         Ok(read) => match read {
-            Some(script) => script_text(alloc, script),
+            Some(script) => replay_script(alloc, script),
             None => Ok((Vec::new(alloc), true)),
         },
         Err(fault) => fault_text(alloc, fault),
@@ -31,7 +30,7 @@ pub fn replay_text(alloc: Global, text: &[u8]) -> Result<(Vec<u8>, bool), NoMemo
 }
 
 /// The text of a script's replay, and whether all of it was good.
-fn script_text(alloc: Global, script: Script) -> Result<(Vec<u8>, bool), NoMemory>
+fn replay_script(alloc: Global, script: Script) -> Result<(Vec<u8>, bool), NoMemory>
     requires left { is_same_host script.left.peer script.right.node.host ≡ true }
     requires right { is_same_host script.right.peer script.left.node.host ≡ true }
     ensures { IfOk result (λ r. (r.0.items, r.1) ≡ script_text script) }
@@ -40,7 +39,7 @@ fn script_text(alloc: Global, script: Script) -> Result<(Vec<u8>, bool), NoMemor
     match World::new(alloc, left, right) {
         Ok(mut world) => {
             let mut text = Vec::new(alloc);
-            let good = push_replay_lines(alloc, &mut world, list.as_slice(), &mut text);
+            let good = replay_happenings(alloc, &mut world, list.as_slice(), &mut text);
             drop(world);
             Ok((text, good?))
         }
@@ -53,7 +52,7 @@ fn script_text(alloc: Global, script: Script) -> Result<(Vec<u8>, bool), NoMemor
 }
 
 /// Appends the lines for these happenings and the last line. False where one names a link that isn't there.
-fn push_replay_lines(
+fn replay_happenings(
     alloc: Global,
     world: &mut World,
     list: &[Happening],

@@ -128,7 +128,7 @@ impl Acquaintance {
 
     /// Notes by what a peer was opened that is open now, and wasn't before this CER or CEA of the connection: by that
     /// where it holds the connection, and else by the CER that waited.
-    fn meet_opening(&mut self, exchange: Octets, conn: Conn, peer: &Peer)
+    fn meet_exchange_or_waiting(&mut self, exchange: Octets, conn: Conn, peer: &Peer)
         ensures { self.new ≡ known_opened conn peer.now exchange self.old }
     {
         if peer.holds(conn) {
@@ -139,11 +139,11 @@ impl Acquaintance {
     }
 
     /// What is known behind a CER or CEA of the connection, which was told in this state, that isn't open.
-    fn meet_exchange(&mut self, exchange: Octets, conn: Conn, before: State, peer: &Peer)
+    fn meet_or_set_waiting(&mut self, exchange: Octets, conn: Conn, before: State, peer: &Peer)
         ensures { self.new ≡ known_by conn before peer.now exchange self.old }
     {
         if peer.is_open() {
-            self.meet_opening(exchange, conn, peer);
+            self.meet_exchange_or_waiting(exchange, conn, peer);
         } else if !before.holds_cer() && peer.state().holds_cer() {
             self.set_waiting(exchange);
         }
@@ -170,7 +170,7 @@ impl Acquaintance {
         if exchange.is_empty() {
             self.meet_after(before, peer);
         } else {
-            self.meet_exchange(exchange, conn, before, peer);
+            self.meet_or_set_waiting(exchange, conn, before, peer);
         }
     }
 }

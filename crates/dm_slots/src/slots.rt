@@ -239,7 +239,7 @@ impl Slots {
 
     /// True only where the connection is there and takes messages of at most `max` octets already. Where it stands is
     /// noted, so as to be looked at first.
-    fn is_raised(&mut self, conn: Conn, max: u32) -> bool
+    fn has_max(&mut self, conn: Conn, max: u32) -> bool
         ensures raised { result ≡ true → (i : OneIntake) × (intakes_of self.old conn.0 ≡ Some i) × (i.max ≡ max) }
         ensures same { intakes_of self.new ≡ intakes_of self.old }
         ensures owners { owners_of self.new ≡ owners_of self.old }
@@ -273,7 +273,7 @@ impl Slots {
         ensures owners { owners_of self.new ≡ owners_of self.old }
     {
         if let Some(conn) = conn {
-            if !self.is_raised(conn, max) {
+            if !self.has_max(conn, max) {
                 self.set_max(conn, max);
             }
         }
@@ -294,7 +294,7 @@ impl Slots {
 
     #[tactic(auto, using(crate::proofs::Steps::left_close))]
     /// What the action closes is no more there. It never answers want of memory.
-    fn leave_closed(&mut self, action: &Action)
+    fn shut_on_close(&mut self, action: &Action)
         ensures left { intakes_of self.new ≡ left_by (action.now ∷ []) (intakes_of self.old) }
         ensures owners { owners_of self.new ≡ closed_by (action.now ∷ []) (owners_of self.old) }
     {
@@ -309,7 +309,7 @@ impl Slots {
         ensures owners { owners_of self.new ≡ closed_by actions.now (owners_of self.old) }
     {
         if let [action, rest @ ..] = actions {
-            self.leave_closed(action);
+            self.shut_on_close(action);
             self.leave(rest);
         }
     }

@@ -1,4 +1,4 @@
-//! The base dictionary (RFC 6733, 4.5 and 5.3 to 7.5).
+//! The tables of the base dictionary, made of its rows (RFC 6733, 4.5 and 5.3 to 7.5).
 ghost use Rattle.std.specs.Prelude.{◌≡◌, ◌++◌, map, true, OnOk, IfOk};
 ghost use Rattle.dm_tables.specs.Sound.{each_after, is_sound_avp, is_sound_command};
 ghost use Rattle.dm_tables.specs.Definitions.{nothing_defined};

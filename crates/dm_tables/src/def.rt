@@ -1,4 +1,4 @@
-//! Definitions of AVPs and of commands.
+//! Definitions of vendors, of AVPs and of commands.
 ghost use Rattle.std.specs.Prelude.{◌≡◌};
 
 use crate::{AvpType, Rule, Values};

@@ -1,4 +1,4 @@
-//! The base dictionary as tables (RFC 6733, 4.5 and 5.3 to 7.5).
+//! The rows of the base dictionary, as constants (RFC 6733, 4.5 and 5.3 to 7.5).
 use crate::{AvpType, Form};
 
 /// An entry of a rule.

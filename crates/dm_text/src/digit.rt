@@ -1,4 +1,4 @@
-//! Hexadecimal digits one by one.
+//! The value of one hexadecimal digit, and the two digits of one octet.
 ghost use Rattle.std.specs.Prelude.{◌≡◌};
 ghost use Rattle.dm_text.specs.Hexadecimal.{digit_pair, digit_worth};
 

@@ -9,7 +9,7 @@ pub mod laws;
 mod line;
 mod line_room;
 mod number;
-mod refusal;
+mod syntax_fault;
 mod word;
 
 pub use crate::decimal::{push_decimal, put_decimal};
@@ -17,5 +17,5 @@ pub use crate::hexadecimal::{Hexadecimal, push_hexadecimal, put_hexadecimal, rea
 pub use crate::line::{Lines, is_skipped, line_feed, trim};
 pub use crate::line_room::LineRoom;
 pub use crate::number::{read_long_number, read_number};
-pub use crate::refusal::push_syntax_fault;
+pub use crate::syntax_fault::push_syntax_fault;
 pub use crate::word::Words;

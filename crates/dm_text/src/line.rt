@@ -67,6 +67,7 @@ pub fn line_feed(input: &[u8]) -> Option<usize>
     memchr(b'\n', input)
 }
 
+/// The line without a CR at its end, where there is one.
 fn without_carriage_return(line: &[u8]) -> &[u8]
     ensures { result.now ≡ strip_carriage_return line.now }
 {

@@ -58,6 +58,7 @@ impl<'a> Iterator for Words<'a> {
     }
 }
 
+/// Where the first space stands; None where there is none.
 fn first_space(line: &[u8]) -> Option<usize>
     ensures { result ≡ position (λ b. b == 32) line.now }
 {

@@ -1,4 +1,4 @@
-//! The line of an AVP.
+//! The line of an AVP, read as show prints it.
 ghost use Rattle.std.specs.Prelude.{◌≡◌, ◌==◌, ◌∷◌, [], ℕ, List, Option, Bool, position, is_some, IfOk, IfSome};
 ghost use Rattle.std.specs.Prelude.{IfNone, MatchOption};
 ghost use Rattle.dm_wire.specs.declared.avp.Avp.{Avp};
@@ -48,7 +48,7 @@ fn read_avp_words(line: &[u8]) -> Option<AvpWords<'_>>
     ensures none { IfNone result ((a : Avp) → TellsAvp a line.now → ⊥) }
 {
     let (first, second, word) = three_words(line)?;
-    let (code, vendor) = read_code(first)?;
+    let (code, vendor) = read_code_and_vendor(first)?;
     let (mandatory, protected) = read_avp_flags(second, vendor.is_some())?;
     Some(AvpWords {
         code,
@@ -75,7 +75,7 @@ fn three_words(line: &[u8]) -> Option<(&[u8], &[u8], &[u8])>
 }
 
 /// The AVP Code that a word tells, and the vendor behind a `/`; None where it tells none.
-fn read_code(word: &[u8]) -> Option<(u32, Option<u32>)>
+fn read_code_and_vendor(word: &[u8]) -> Option<(u32, Option<u32>)>
     ensures told { IfSome result (λ read. TellsCode read.0 read.1 word.now) }
     ensures none { IfNone result ((code : ℕ) (vendor : Option ℕ) → TellsCode code vendor word.now → ⊥) }
 {

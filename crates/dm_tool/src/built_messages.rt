@@ -11,7 +11,7 @@ ghost use Rattle.dm_tool.specs.Progress.{last_message, HoldsBehind, GoesOnNowher
 use crate::avp_line::read_avp;
 use crate::fault::ToolFault;
 use crate::header_line::read_header;
-use crate::message_text::push_fault;
+use crate::message_text::push_message_fault;
 use dm_text::{is_skipped, push_hexadecimal, trim};
 use dm_wire::{Avp, AvpList, Header, Message};
 use std::alloc::Global;
@@ -139,7 +139,7 @@ fn push_octets_line(alloc: Global, text: &mut Vec<u8>, message: &Message) -> Res
             Ok(true)
         }
         Err(fault) => {
-            push_fault(text, fault)?;
+            push_message_fault(text, fault)?;
             text.push(b'\n')?;
             Ok(false)
         }

@@ -1,4 +1,4 @@
-//! The first line of a message.
+//! The first line of a message, read as show prints it, and flags read by their letters.
 ghost use Rattle.std.specs.Prelude.{◌≡◌, ◌∷◌, ℕ, Bool, List, IfSome, IfNone};
 ghost use Rattle.dm_wire.specs.declared.message.Header.{Header};
 ghost use Rattle.dm_tool.specs.Text.{flag_mark, header_marks};

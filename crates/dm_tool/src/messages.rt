@@ -8,8 +8,8 @@ ghost use Rattle.dm_tool.specs.Text.{fault_text};
 ghost use Rattle.dm_tool.specs.Tasks.{answer_of};
 
 use crate::fault::ToolFault;
-use crate::message_text::{push_fault, push_message_text};
-use crate::verdict::push_judged;
+use crate::message_text::{push_message_fault, push_message_text};
+use crate::verdict::push_judged_line;
 use dm_dict::Dictionary;
 use dm_text::{LineRoom, Lines, is_skipped, trim};
 use dm_wire::{MessageRef, WireFault};
@@ -39,7 +39,7 @@ pub fn messages_text(
     for line in Lines::new(input) {
         let line = trim(line);
         if !is_skipped(line) {
-            let fine = print_line(alloc, task, line, &mut room, &mut text)?;
+            let fine = push_text_for_line(alloc, task, line, &mut room, &mut text)?;
             good = good && fine;
         }
     }
@@ -47,7 +47,7 @@ pub fn messages_text(
 }
 
 /// Appends the text for a line. True where it is good. The room is used again from line to line.
-fn print_line(
+fn push_text_for_line(
     alloc: Global,
     task: Task<'_>,
     line: &[u8],
@@ -59,7 +59,7 @@ fn print_line(
     ensures fault { IfErr result (λ e. e ≡ ToolFault.Memory) }
 {
     match room.read(line)? {
-        Some(octets) => print_octets(alloc, task, octets, text),
+        Some(octets) => push_text_for_octets(alloc, task, octets, text),
         None => {
             text.extend_from_slice(b"fault hex\n")?;
             Ok(false)
@@ -68,7 +68,7 @@ fn print_line(
 }
 
 /// Appends the text for the octets of a line. True where they are good.
-fn print_octets(
+fn push_text_for_octets(
     alloc: Global,
     task: Task<'_>,
     octets: &[u8],
@@ -95,7 +95,7 @@ fn show_octets(octets: &[u8], text: &mut Vec<u8>) -> Result<bool, ToolFault>
             push_message_text(text, &message)?;
             Ok(true)
         }
-        Err(fault) => print_fault(text, fault),
+        Err(fault) => push_fault_line(text, fault),
     }
 }
 
@@ -113,20 +113,20 @@ fn check_octets(
     match MessageRef::read(octets) {
         Ok(message) => {
             let judged = dictionary.judge(&message);
-            push_judged(alloc, text, judged)
+            push_judged_line(alloc, text, judged)
         }
-        Err(fault) => print_fault(text, fault),
+        Err(fault) => push_fault_line(text, fault),
     }
 }
 
 /// Appends the line for a fault of octets, which aren't good.
-fn print_fault(text: &mut Vec<u8>, fault: WireFault) -> Result<bool, ToolFault>
+fn push_fault_line(text: &mut Vec<u8>, fault: WireFault) -> Result<bool, ToolFault>
     ensures words { IfOk result (λ good. text.new.items ≡ text.old.items ++ fault_text fault ++ 10 ∷ []) }
     ensures known { IfOk result (λ good. fault ≢ wire.NoMemory) }
     ensures bad { IfOk result (λ good. good ≡ false) }
     ensures fault { IfErr result (λ e. e ≡ ToolFault.Memory) }
 {
-    push_fault(text, fault)?;
+    push_message_fault(text, fault)?;
     text.push(b'\n')?;
     Ok(false)
 }

@@ -15,7 +15,11 @@ use std::alloc::{AllocError, Global};
 
 /// Appends the line for what was found, and tells whether it is good. An AVP of the message isn't copied: only the
 /// example of one that it lacks is made.
-pub fn push_judged(alloc: Global, text: &mut Vec<u8>, judged: Judged<'_>) -> Result<bool, ToolFault>
+pub fn push_judged_line(
+    alloc: Global,
+    text: &mut Vec<u8>,
+    judged: Judged<'_>,
+) -> Result<bool, ToolFault>
     ensures line { OnOk result (text.new.items
         ≡ text.old.items ++ (verdict_line (verdict_of (shown judged.entry))).0) }
     ensures good { IfOk result (λ good. good ≡ is_good_verdict (verdict_of (shown judged.entry))) }

@@ -58,7 +58,7 @@ fn put_transport_member(json: &mut JsonText, transport: Transport) -> Result<(),
 }
 
 /// Appends what carried a message, and in which packet, as members `transport` and `packet`.
-fn put_place_members(
+fn put_transport_and_packet_members(
     json: &mut JsonText,
     transport: Transport,
     packet: u64,
@@ -88,6 +88,6 @@ pub fn put_json_front(
     put_time_member(json, room, clock, seen.time)?;
     put_end_member(json, room, "from", seen.from)?;
     put_end_member(json, room, "to", seen.to)?;
-    put_place_members(json, seen.transport, seen.packet)?;
+    put_transport_and_packet_members(json, seen.transport, seen.packet)?;
     Ok(())
 }

@@ -6,7 +6,7 @@ use Rattle.dm_flows.specs.declared.passed.Passed.{Passed}
 use Rattle.dm_flows.specs.Tcps.{IsNoSegment}
 use Rattle.dm_tables.specs.Definitions.{Definitions}
 use Rattle.dm_view_lines.specs.declared.message_reports.Task.{Task}
-use Rattle.dm_trace_view.specs.declared.trace.TraceSpeaker.{TraceSpeaker}
+use Rattle.dm_trace_view.specs.declared.trace_speaker.TraceSpeaker.{TraceSpeaker}
 use Rattle.dm_trace_view.specs.Traces.{first_time_of, carries_other, with_passed, SaysOther, SaysPacket}
 
 module _ (task : Task) (d : Definitions) (s : TraceSpeaker) (packet : Captured) (why : Passed) (first : Option Time) where

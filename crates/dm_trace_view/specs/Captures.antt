@@ -15,7 +15,7 @@ use Rattle.dm_view_lines.specs.Counts.{no_lines}
 use Rattle.dm_view_lines.specs.Ending.{FailsAtEnd}
 use Rattle.dm_trace_view.specs.declared.counts.Counts.{Counts}
 use Rattle.dm_trace_view.specs.declared.looks.Looks.{Looks}
-use Rattle.dm_trace_view.specs.declared.trace.TraceSpeaker.{TraceSpeaker}
+use Rattle.dm_trace_view.specs.declared.trace_speaker.TraceSpeaker.{TraceSpeaker}
 use Rattle.dm_trace_view.specs.Runs.{SaysFile, StopsFile}
 use Rattle.dm_trace_view.specs.Told.{ending_text}
 use Rattle.dm_trace_view.specs.Traces.{SaysPacket, more_of}

@@ -34,7 +34,7 @@ use Rattle.dm_trace_view.specs.declared.lost.Lost.{Lost}
 use Rattle.dm_trace_view.specs.declared.lost.Lost.TheVariants as lost
 use Rattle.dm_trace_view.specs.declared.times.Times.{Times}
 use Rattle.dm_trace_view.specs.declared.times.Times.TheVariants as times
-use Rattle.dm_trace_view.specs.declared.trace.TraceSpeaker.{TraceSpeaker}
+use Rattle.dm_trace_view.specs.declared.trace_speaker.TraceSpeaker.{TraceSpeaker}
 use Rattle.dm_trace_view.specs.Handed.{SaysHanded}
 use Rattle.dm_trace_view.specs.Talks.{Talk, tcp_talk, sctp_talk}
 use Rattle.dm_trace_view.specs.Told.{lost_text}

@@ -68,19 +68,19 @@ fn put_count_member(json: &mut JsonText, name: &str, number: u64) -> Result<(), 
 }
 
 /// Appends the counts as members, and closes the object.
-fn put_counts_members(json: &mut JsonText, counts: Counts, tally: Tally) -> Result<(), AllocError>
+fn put_counts_and_close(json: &mut JsonText, counts: Counts, tally: Tally) -> Result<(), AllocError>
     ensures { OnOk result (json.new ≡ json.old ++ members_tokens (counts_members counts tally)) }
 {
     put_count_member(json, "connections", counts.connections)?;
     put_count_member(json, "messages", message_count(tally))?;
     put_count_member(json, "good", tally.good)?;
     put_count_member(json, "bad", tally.bad)?;
-    put_lost_counts(json, counts)?;
+    put_lost_counts_and_close(json, counts)?;
     Ok(())
 }
 
 /// Appends what was lost as members, and closes the object.
-fn put_lost_counts(json: &mut JsonText, counts: Counts) -> Result<(), AllocError>
+fn put_lost_counts_and_close(json: &mut JsonText, counts: Counts) -> Result<(), AllocError>
     ensures { OnOk result (json.new ≡ json.old ++ members_tokens (lost_counts counts)) }
 {
     put_count_member(json, "passed", counts.passed)?;
@@ -102,7 +102,7 @@ fn put_counts_json(
 {
     let mut json = JsonText::new(alloc);
     json.begin_object()?;
-    put_counts_members(&mut json, counts, tally)?;
+    put_counts_and_close(&mut json, counts, tally)?;
     json.put_line(text)
 }
 

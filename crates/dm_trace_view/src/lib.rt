@@ -1,22 +1,22 @@
 //! What is said of the Diameter messages of a capture: read, said and written packet by packet.
 #![tactic(auto)]
 
+mod buffered_packets;
 mod counts;
 mod ending;
 mod filter;
+mod gathered_packets;
 mod handed_messages;
 mod let_go_connections;
 mod looks;
 mod lost;
 mod packet_context;
-mod packets;
-mod pieces;
 mod run;
 mod seen_front;
 mod sent_and_unread;
 mod speaker;
 mod times;
-mod trace;
+mod trace_speaker;
 
 pub use filter::{Filter, Wanted};
 pub use looks::Looks;

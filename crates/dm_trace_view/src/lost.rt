@@ -95,7 +95,7 @@ fn put_end_member(
 }
 
 /// Appends what was lost as a member, and closes the object.
-fn put_lost_member(json: &mut JsonText, lost: Lost) -> Result<(), AllocError>
+fn put_lost_and_close(json: &mut JsonText, lost: Lost) -> Result<(), AllocError>
     ensures { OnOk result (json.new ≡ json.old ++ members_tokens (lost_member lost)) }
 {
     match lost {
@@ -127,7 +127,7 @@ fn put_lost_object(json: &mut JsonText, room: &mut String, told: LostIn) -> Resu
     json.number(told.packet)?;
     put_end_member(json, room, "from", told.from)?;
     put_end_member(json, room, "to", told.to)?;
-    put_lost_member(json, told.lost)?;
+    put_lost_and_close(json, told.lost)?;
     Ok(())
 }
 

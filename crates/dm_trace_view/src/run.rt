@@ -9,14 +9,14 @@ ghost use Rattle.dm_connections.specs.Held.{all_octets};
 ghost use Rattle.dm_trace_view.specs.Told.{ending_text};
 ghost use Rattle.dm_trace_view.specs.Traces.{more_of};
 
+use crate::buffered_packets::say_packets;
 use crate::counts::Counts;
 use crate::ending::put_ending;
+use crate::gathered_packets::Output;
 use crate::handed_messages::Numbered;
 use crate::looks::Looks;
 use crate::packet_context::Reckoned;
-use crate::packets::Output;
-use crate::pieces::say_packets;
-use crate::trace::TraceSpeaker;
+use crate::trace_speaker::TraceSpeaker;
 use dm_associations::Associations;
 use dm_capture::{CaptureFault, CaptureReader};
 use dm_connections::{Connections, TwoWay};

@@ -125,7 +125,7 @@ fn put_passed(
 }
 
 /// Appends how many octets of Diameter over DTLS came, where they are the first of their connection.
-fn put_secured(
+fn put_first_secured(
     alloc: Global,
     text: &mut String,
     hearing: Hearing<'_>,
@@ -155,13 +155,13 @@ fn put_unread(
         ≡ string_bytes text.old ++ unread_text hearing.entry between before after) }
 {
     put_passed(alloc, text, hearing, between, before.passed, after.passed)?;
-    put_secured(alloc, text, hearing, between, before.secured, after.secured)?;
+    put_first_secured(alloc, text, hearing, between, before.secured, after.secured)?;
     Ok(())
 }
 
 /// Gives what is sent to its connection, where that is looked at, and says the messages that it hands out then, and
 /// what is lost.
-pub(crate) fn put_sent<S: Copy, C: Takes<S>>(
+pub(crate) fn say_sent<S: Copy, C: Takes<S>>(
     alloc: Global,
     text: &mut String,
     dictionary: &Dictionary,

@@ -15,7 +15,7 @@ pub enum Times {
 }
 
 /// The first of both times that is known; None where neither is.
-pub(crate) fn first_time(first: Option<Time>, time: Option<Time>) -> Option<Time>
+pub(crate) fn first_known_time(first: Option<Time>, time: Option<Time>) -> Option<Time>
     ensures { result ≡ first_time_of first time }
 {
     match first {

@@ -43,9 +43,9 @@ fn fault_by_type(kind: AvpType, octets: &[u8]) -> Option<ValueFault>
         }
         AvpType::Integer64 | AvpType::Unsigned64 => size_fault(octets, 8),
         AvpType::Address => address_fault(octets),
-        AvpType::UTF8String => form_fault(octets, 0, is_text(octets)),
-        AvpType::DiameterIdentity => form_fault(octets, 1, is_visible(octets)),
-        AvpType::DiameterURI => form_fault(octets, 7, is_uri(octets)),
+        AvpType::UTF8String => length_or_form_fault(octets, 0, is_valid_utf8(octets)),
+        AvpType::DiameterIdentity => length_or_form_fault(octets, 1, is_visible(octets)),
+        AvpType::DiameterURI => length_or_form_fault(octets, 7, looks_like_uri(octets)),
     }
 }
 
@@ -72,7 +72,7 @@ fn size_fault(octets: &[u8], size: usize) -> Option<ValueFault>
 }
 
 /// `WrongLength` for fewer octets than `least`, else `WrongValue` where they aren't right, else None.
-fn form_fault(octets: &[u8], least: usize, right: bool) -> Option<ValueFault>
+fn length_or_form_fault(octets: &[u8], least: usize, right: bool) -> Option<ValueFault>
     ensures { result ≡ tested least right octets.now }
 {
     if octets.len() < least {
@@ -96,11 +96,11 @@ fn address_fault(octets: &[u8]) -> Option<ValueFault>
         2 => octets.len() == 18,
         _ => true,
     };
-    form_fault(octets, 2, right)
+    length_or_form_fault(octets, 2, right)
 }
 
 /// Whether the octets are UTF-8.
-fn is_text(octets: &[u8]) -> bool
+fn is_valid_utf8(octets: &[u8]) -> bool
     ensures { result ≡ is_utf8 octets.now }
 {
     match std::str::from_utf8(octets) {
@@ -117,14 +117,14 @@ fn is_visible(octets: &[u8]) -> bool
 }
 
 /// Whether the octets are `aaa://` or `aaas://` and at least one visible octet.
-fn is_uri(octets: &[u8]) -> bool
+fn looks_like_uri(octets: &[u8]) -> bool
     ensures { result ≡ is_uri octets.now }
 {
-    is_uri_of_scheme(b"aaa://", octets) || is_uri_of_scheme(b"aaas://", octets)
+    is_visible_behind_scheme(b"aaa://", octets) || is_visible_behind_scheme(b"aaas://", octets)
 }
 
 /// Whether the octets are the scheme and at least one visible octet.
-fn is_uri_of_scheme(scheme: &[u8], octets: &[u8]) -> bool
+fn is_visible_behind_scheme(scheme: &[u8], octets: &[u8]) -> bool
     ensures { result ≡ is_under scheme.now octets.now }
 {
     match octets.strip_prefix(scheme) {

@@ -1,5 +1,5 @@
 //! Numbers as octets in network byte order, for the values of AVPs (RFC 6733, 4.2).
-ghost use Rattle.std.specs.Prelude.{◌≡◌, ◌^◌, ◌<◌, ◌++◌, FitsSigned, IfOk};
+ghost use Rattle.std.specs.Prelude.{◌≡◌, ◌^◌, ◌<◌, FitsSigned, IfOk};
 ghost use Rattle.std.specs.Int.{cast_signed, cast_unsigned, w32, w64};
 ghost use Rattle.byteorder.specs.Endian.{big_number};
 ghost use Rattle.dm_wire.specs.Spelling.{be};
@@ -7,6 +7,7 @@ ghost use Rattle.dm_wire.specs.Spelling.{be};
 use byteorder::{BigEndian, ByteOrder};
 use std::alloc::{AllocError, Global};
 
+/// The number as four octets; or want of memory.
 pub(crate) fn write_unsigned_32(alloc: Global, number: u32) -> Result<Vec<u8>, AllocError>
     ensures octets { IfOk result (λ octets. octets.items ≡ be number 4) }
     ensures read_back { number ≡ big_number 4 (be number 4) }
@@ -17,6 +18,7 @@ pub(crate) fn write_unsigned_32(alloc: Global, number: u32) -> Result<Vec<u8>, A
     Vec::from_slice(alloc, &octets)
 }
 
+/// The number as eight octets; or want of memory.
 pub(crate) fn write_unsigned_64(alloc: Global, number: u64) -> Result<Vec<u8>, AllocError>
     ensures octets { IfOk result (λ octets. octets.items ≡ be number 8) }
     ensures read_back { number ≡ big_number 8 (be number 8) }
@@ -27,6 +29,7 @@ pub(crate) fn write_unsigned_64(alloc: Global, number: u64) -> Result<Vec<u8>, A
     Vec::from_slice(alloc, &octets)
 }
 
+/// The number as four octets, in two's complement; or want of memory.
 pub(crate) fn write_signed_32(alloc: Global, number: i32) -> Result<Vec<u8>, AllocError>
     ensures octets { IfOk result (λ octets. octets.items ≡ be (cast_unsigned w32 number) 4) }
     ensures read_back { number ≡ cast_signed w32 (big_number 4 (be (cast_unsigned w32 number) 4)) }
@@ -37,6 +40,7 @@ pub(crate) fn write_signed_32(alloc: Global, number: i32) -> Result<Vec<u8>, All
     Vec::from_slice(alloc, &octets)
 }
 
+/// The number as eight octets, in two's complement; or want of memory.
 pub(crate) fn write_signed_64(alloc: Global, number: i64) -> Result<Vec<u8>, AllocError>
     ensures octets { IfOk result (λ octets. octets.items ≡ be (cast_unsigned w64 number) 8) }
     ensures read_back { number ≡ cast_signed w64 (big_number 8 (be (cast_unsigned w64 number) 8)) }
@@ -45,22 +49,4 @@ pub(crate) fn write_signed_64(alloc: Global, number: i64) -> Result<Vec<u8>, All
     let mut octets = [0; 8];
     BigEndian::write_i64(&mut octets, number);
     Vec::from_slice(alloc, &octets)
-}
-
-/// An address: two octets of family, and the octets behind it.
-pub(crate) fn write_address_of_family(
-    alloc: Global,
-    family: u16,
-    rest: &[u8],
-) -> Result<Vec<u8>, AllocError>
-    ensures octets { IfOk result (λ octets. octets.items ≡ be family 2 ++ rest.now) }
-    ensures read_back { family ≡ big_number 2 (be family 2 ++ rest.now) }
-    ensures fits { family < 256 ^ 2 }
-{
-    let mut front = [0; 2];
-    BigEndian::write_u16(&mut front, family);
-    let mut octets = Vec::with_capacity(alloc, 2 + rest.len())?;
-    octets.extend_from_slice(&front)?;
-    octets.extend_from_slice(rest)?;
-    Ok(octets)
 }

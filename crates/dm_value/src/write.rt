@@ -1,16 +1,17 @@
 //! Values to octets (RFC 6733, 4.2 to 4.4).
-ghost use Rattle.std.specs.Prelude.{◌≡◌, ◌≢◌, ◌⊎◌, ◌↔◌, List, IfOk, IfErr, IsErrOf, IsTrue};
+ghost use Rattle.std.specs.Prelude.{◌≡◌, ◌≢◌, ◌⊎◌, ◌↔◌, ◌^◌, ◌<◌, ◌++◌, List, IfOk, IfErr, IsErrOf, IsTrue};
+ghost use Rattle.byteorder.specs.Endian.{big_number};
 ghost use Rattle.dm_wire.specs.declared.avp.Avp.{Avp};
 ghost use Rattle.dm_wire.specs.Canonical.{canonical_list};
 ghost use Rattle.dm_wire.specs.Limits.{IsLongList};
+ghost use Rattle.dm_wire.specs.Spelling.{be};
 ghost use Rattle.dm_value.specs.Meaning.{Means, type_of, IsInRange, HasNoOctets, HasLongMember, IsMisshapen};
 ghost use Rattle.dm_value.specs.declared.value.Value.{Value};
 
 use crate::laws::one_value;
-use crate::numbers::{
-    write_address_of_family, write_signed_32, write_signed_64, write_unsigned_32, write_unsigned_64,
-};
+use crate::numbers::{write_signed_32, write_signed_64, write_unsigned_32, write_unsigned_64};
 use crate::{Address, AvpType, Ip, Value, ValueFault, value_fault};
+use byteorder::{BigEndian, ByteOrder};
 use dm_wire::{AvpList, WireFault, encode_avps};
 use std::alloc::{AllocError, Global};
 
@@ -111,6 +112,20 @@ fn write_ip(alloc: Global, ip: &Ip) -> Result<Vec<u8>, AllocError>
         Ip::V4(octets) => write_address_of_family(alloc, 1, octets),
         Ip::V6(octets) => write_address_of_family(alloc, 2, octets),
     }
+}
+
+/// An address: two octets of family, and the octets behind it; or want of memory.
+fn write_address_of_family(alloc: Global, family: u16, rest: &[u8]) -> Result<Vec<u8>, AllocError>
+    ensures octets { IfOk result (λ octets. octets.items ≡ be family 2 ++ rest.now) }
+    ensures read_back { family ≡ big_number 2 (be family 2 ++ rest.now) }
+    ensures fits { family < 256 ^ 2 }
+{
+    let mut front = [0; 2];
+    BigEndian::write_u16(&mut front, family);
+    let mut octets = Vec::with_capacity(alloc, 2 + rest.len())?;
+    octets.extend_from_slice(&front)?;
+    octets.extend_from_slice(rest)?;
+    Ok(octets)
 }
 
 /// The octets of the AVPs, one after the other; or `TooLong` where the AVP Length of one would pass 16777215, else want

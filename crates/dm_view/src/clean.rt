@@ -12,17 +12,17 @@ pub(crate) fn are_clean(octets: &[u8], least: u8) -> bool
     ensures { result ≡ true → All (NeedsNoEscape least) octets.now }
 {
     if octets.len() >= 16 {
-        are_many_clean(octets, least)
+        are_clean_by_sixteens(octets, least)
     } else if octets.len() >= 8 {
-        are_some_clean(octets, least)
+        are_clean_by_eights(octets, least)
     } else {
-        are_few_clean(octets, least)
+        are_clean_singly(octets, least)
     }
 }
 
 /// True only where each of these sixteen octets or more is clean (`are_clean`). Those at the end may be looked at
 /// twice.
-fn are_many_clean(octets: &[u8], least: u8) -> bool
+fn are_clean_by_sixteens(octets: &[u8], least: u8) -> bool
     requires bound { least ≤ 33 }
     requires many { 16 ≤ length octets.now }
     ensures { result ≡ true → CleanBetween least octets.now 0 (length octets.now) }
@@ -48,7 +48,7 @@ fn are_runs_clean(octets: &[u8], runs: usize, least: u8) -> bool
 }
 
 /// True only where each of these eight to sixteen octets is clean (`are_clean`). Some may be looked at twice.
-fn are_some_clean(octets: &[u8], least: u8) -> bool
+fn are_clean_by_eights(octets: &[u8], least: u8) -> bool
     requires bound { least ≤ 33 }
     requires many { 8 ≤ length octets.now }
     requires few { length octets.now ≤ 16 }
@@ -101,7 +101,7 @@ fn are_eight_clean(octets: &[u8], from: usize, least: u8) -> bool
 }
 
 /// True only where each octet is clean (`are_clean`), looked at one by one.
-fn are_few_clean(octets: &[u8], least: u8) -> bool
+fn are_clean_singly(octets: &[u8], least: u8) -> bool
     ensures { result ≡ true → CleanBetween least octets.now 0 (length octets.now) }
 {
     'octets: for i in 0..octets.len() {

@@ -16,7 +16,7 @@ ghost use Rattle.dm_view.specs.View.{listed_text, value_view, flaw_words, data_v
 use crate::clean::are_clean;
 use crate::described_data::ipv6_octets;
 use crate::texts_and_numbers::{
-    put_number, put_octets, put_octets_name, put_quoted, put_signed, put_unsigned,
+    put_octets, put_octets_name, put_quoted, put_signed, put_unsigned, put_words_and_number,
     put_words_and_octets,
 };
 use byteorder::{BigEndian, ByteOrder};
@@ -61,7 +61,7 @@ fn put_other_address(text: &mut String, family: u16, octets: &[u8]) -> Result<()
     ensures { OnOk result (string_bytes text.new ≡ string_bytes text.old
         ++ codes "family " ++ decimal family ++ codes " " ++ encode_lower octets.now) }
 {
-    put_number(text, "family ", u32::from(family))?;
+    put_words_and_number(text, "family ", u32::from(family))?;
     text.push_str(" ")?;
     put_hexadecimal(text, octets)
 }

@@ -16,7 +16,7 @@ use crate::avps::{put_avp_front, put_avp_name};
 use crate::header::put_header;
 use crate::reasons::{Reason, ReasonBehind};
 use crate::results::result_name;
-use crate::texts_and_numbers::put_number;
+use crate::texts_and_numbers::put_words_and_number;
 use dm_dict::codes::MISSING_AVP;
 use dm_dict::{AvpDef, Dictionary, Failed, LocatedFault, NoMemory, Step};
 use dm_text::put_decimal;
@@ -66,7 +66,7 @@ pub(crate) fn failed_without_data(failed: Failed<'_>) -> Option<AvpRef<'_>>
 }
 
 /// How many octets the data of the failed AVP has; 0 where the fault names no AVP.
-pub(crate) fn failed_length(failed: Failed<'_>) -> usize
+pub(crate) fn failed_data_length(failed: Failed<'_>) -> usize
     ensures { result ≡ failed_length (failed_of failed.entry) }
 {
     match failed {
@@ -120,7 +120,7 @@ fn put_failed_if_any(
 fn put_result_code(text: &mut String, code: u32) -> Result<(), AllocError>
     ensures { OnOk result (string_bytes text.new ≡ string_bytes text.old ++ (codes "  " ++ result_text code)) }
 {
-    put_number(text, "  ", code)?;
+    put_words_and_number(text, "  ", code)?;
     text.push_str(" ")?;
     text.push_str(result_name(code))
 }
@@ -137,7 +137,7 @@ fn put_fault(
     let (code, failed) = (fault.fault.code, fault.fault.failed);
     put_result_code(text, code)?;
     put_path(text, dictionary, fault.path.as_slice())?;
-    let length = failed_length(failed);
+    let length = failed_data_length(failed);
     put_failed_if_any(text, dictionary, code, length, failed_without_data(failed))?;
     text.push_str("\n")?;
     Ok(())

@@ -4,7 +4,7 @@ ghost use Rattle.std.specs.Option.{option_copied};
 ghost use Rattle.std.specs.String.{string_bytes};
 ghost use Rattle.dm_view.specs.View.{command_name, command_of, flag_words, both_text, header_view};
 
-use crate::texts_and_numbers::{put_number, put_octets_name};
+use crate::texts_and_numbers::{put_octets_name, put_words_and_number};
 use dm_dict::{CommandDef, Dictionary};
 use dm_text::put_hexadecimal;
 use dm_wire::Header;
@@ -65,7 +65,7 @@ fn put_decimal_and_hexadecimal(
     ensures { OnOk result (string_bytes text.new ≡ string_bytes text.old ++ words.now ++ both_text number) }
 {
     let octets = number.to_be_bytes();
-    put_number(text, words, number)?;
+    put_words_and_number(text, words, number)?;
     text.push_str(" (0x")?;
     put_hexadecimal(text, octets.as_slice())?;
     text.push_str(")")
@@ -85,9 +85,9 @@ pub fn put_header(
         text,
         dictionary.command(header.command, header.request, false),
     )?;
-    put_number(text, " ", header.command)?;
+    put_words_and_number(text, " ", header.command)?;
     put_flag_words(text, header)?;
-    put_number(text, ", application ", header.application)?;
+    put_words_and_number(text, ", application ", header.application)?;
     put_decimal_and_hexadecimal(text, ", hop-by-hop ", header.hop_id)?;
     put_decimal_and_hexadecimal(text, ", end-to-end ", header.end_id)?;
     text.push_str("\n")?;

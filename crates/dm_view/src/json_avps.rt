@@ -124,12 +124,12 @@ fn put_group(
     }
     json.begin_array()?;
     let members = AvpsRef::Spelled(octets);
-    put_avps(json, dictionary, members, depth - 1)
+    put_avps_and_close(json, dictionary, members, depth - 1)
 }
 
 /// Appends AVPs, where so many groups may stand inside each other, and the end of their array.
 #[cycle(telling)]
-pub(crate) fn put_avps(
+pub(crate) fn put_avps_and_close(
     json: &mut JsonText,
     dictionary: &Dictionary,
     list: AvpsRef<'_>,

@@ -14,10 +14,10 @@ ghost use Rattle.dm_view.specs.Check.{are_none};
 ghost use Rattle.dm_view.specs.JsonCheck.{failed_words, failed_members_by, failed_members};
 ghost use Rattle.dm_view.specs.JsonCheck.{fault_json, faults_items, verdict_json, check_members};
 
-use crate::faults::{failed_length, failed_without_data};
+use crate::faults::{failed_data_length, failed_without_data};
 use crate::json_avps::put_json_avp_front;
 use crate::json_header::put_json_header;
-use crate::json_path::put_path;
+use crate::json_path::put_path_and_close;
 use crate::json_text::JsonText;
 use crate::reasons::Reason;
 use crate::results::result_name;
@@ -27,7 +27,7 @@ use dm_wire::{AvpRef, MessageRef};
 use std::alloc::{AllocError, Global};
 
 /// Why an AVP of this definition, whose data has this length, is a fault.
-fn failed_words(
+fn fault_reason(
     alloc: Global,
     code: u32,
     def: Option<&AvpDef>,
@@ -43,7 +43,7 @@ fn failed_words(
 }
 
 /// Appends a failed AVP, whose data has this length, and why it is a fault, and the end of the fault.
-fn put_failed_avp(
+fn put_failed_avp_and_close(
     alloc: Global,
     json: &mut JsonText,
     code: u32,
@@ -58,13 +58,13 @@ fn put_failed_avp(
     json.begin_object()?;
     put_json_avp_front(json, def, avp)?;
     json.end_object()?;
-    let words = failed_words(alloc, code, def, length)?;
+    let words = fault_reason(alloc, code, def, length)?;
     json.text_member("reason", words.as_str())?;
     json.end_object()
 }
 
 /// Appends the failed AVP, nothing where there is none, and the end of the fault.
-fn put_json_failed_if_any(
+fn put_failed_and_close(
     alloc: Global,
     json: &mut JsonText,
     dictionary: &Dictionary,
@@ -79,7 +79,7 @@ fn put_json_failed_if_any(
         return json.end_object();
     };
     let def = dictionary.avp_by_code(avp.code, avp.vendor);
-    put_failed_avp(alloc, json, code, def, length, avp)
+    put_failed_avp_and_close(alloc, json, code, def, length, avp)
 }
 
 /// Appends a fault.
@@ -98,9 +98,9 @@ fn put_fault(
     json.text_member("name", result_name(code))?;
     json.key("path")?;
     json.begin_array()?;
-    put_path(json, dictionary, fault.path.as_slice())?;
-    let length = failed_length(failed);
-    put_json_failed_if_any(
+    put_path_and_close(json, dictionary, fault.path.as_slice())?;
+    let length = failed_data_length(failed);
+    put_failed_and_close(
         alloc,
         json,
         dictionary,
@@ -112,7 +112,7 @@ fn put_fault(
 }
 
 /// Appends faults, one after the other, and the end of their array.
-fn put_faults(
+fn put_faults_and_close(
     alloc: Global,
     json: &mut JsonText,
     dictionary: &Dictionary,
@@ -154,7 +154,7 @@ fn put_json_check_of_faults(
     put_json_header(json, dictionary, &message.header)?;
     json.key("faults")?;
     json.begin_array()?;
-    put_faults(alloc, json, dictionary, faults)?;
+    put_faults_and_close(alloc, json, dictionary, faults)?;
     Ok(())
 }
 

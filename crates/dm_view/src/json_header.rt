@@ -22,7 +22,7 @@ fn put_json_command_name(json: &mut JsonText, def: Option<&CommandDef>) -> Resul
 }
 
 /// The word for whether the header is a request's or an answer's.
-fn kind_words(header: &Header) -> &'static str
+fn request_or_answer(header: &Header) -> &'static str
     ensures { result.now ≡ kind_words header.now }
 {
     if header.request { "request" } else { "answer" }
@@ -33,7 +33,7 @@ fn put_json_flag_words(json: &mut JsonText, header: &Header) -> Result<(), Alloc
     ensures { OnOk result (json.new ≡ json.old ++ json_tokens (header_words header.now)) }
 {
     json.begin_array()?;
-    json.string(kind_words(header))?;
+    json.string(request_or_answer(header))?;
     put_word_if_meant(json, header.proxiable, "proxiable")?;
     put_word_if_meant(json, header.error, "error")?;
     put_word_if_meant(json, header.retransmit, "retransmitted")?;
@@ -42,7 +42,7 @@ fn put_json_flag_words(json: &mut JsonText, header: &Header) -> Result<(), Alloc
 }
 
 /// Appends the application and the identifiers of a header, and the end of its object.
-fn put_identifiers(json: &mut JsonText, header: &Header) -> Result<(), AllocError>
+fn put_identifiers_and_close(json: &mut JsonText, header: &Header) -> Result<(), AllocError>
     ensures { OnOk result (json.new ≡ json.old ++ members_tokens (identifiers header.now)) }
 {
     json.number_behind_key("\"application\":", header.application)?;
@@ -69,6 +69,6 @@ pub fn put_json_header(
     json.number_member("code", header.command)?;
     json.key("flags")?;
     put_json_flag_words(json, header)?;
-    put_identifiers(json, header)?;
+    put_identifiers_and_close(json, header)?;
     Ok(())
 }

@@ -7,7 +7,7 @@ ghost use Rattle.dm_wire.specs.Spelling.{SpellsList};
 ghost use Rattle.dm_view.specs.JsonView.{message_members};
 
 use crate::avps::GROUPS_SHOWN;
-use crate::json_avps::put_avps;
+use crate::json_avps::put_avps_and_close;
 use crate::json_header::put_json_header;
 use crate::json_text::JsonText;
 use dm_dict::Dictionary;
@@ -33,6 +33,6 @@ pub fn put_json_message(
     json.key("avps")?;
     json.begin_array()?;
     let list = AvpsRef::Spelled(message.rest);
-    put_avps(json, dictionary, list, GROUPS_SHOWN)?;
+    put_avps_and_close(json, dictionary, list, GROUPS_SHOWN)?;
     Ok(())
 }

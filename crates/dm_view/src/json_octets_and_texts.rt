@@ -13,7 +13,7 @@ use std::alloc::AllocError;
 use std::str;
 
 /// Appends the member that is octets in hexadecimal, and the end of its object.
-fn put_octets_member(json: &mut JsonText, octets: &[u8]) -> Result<(), AllocError>
+fn put_octets_and_close(json: &mut JsonText, octets: &[u8]) -> Result<(), AllocError>
     ensures { OnOk result (json.new ≡ json.old ++ members_tokens (octets_member octets.now)) }
 {
     json.key("octets")?;
@@ -26,7 +26,7 @@ pub(crate) fn put_octets(json: &mut JsonText, octets: &[u8]) -> Result<(), Alloc
     ensures { OnOk result (json.new ≡ json.old ++ json_tokens (octets_json octets.now)) }
 {
     json.begin_object()?;
-    put_octets_member(json, octets)
+    put_octets_and_close(json, octets)
 }
 
 /// Appends what is wrong with octets, and the octets.
@@ -35,7 +35,7 @@ pub(crate) fn put_flaw(json: &mut JsonText, words: &str, octets: &[u8]) -> Resul
 {
     json.begin_object()?;
     json.text_member("flaw", words)?;
-    put_octets_member(json, octets)
+    put_octets_and_close(json, octets)
 }
 
 /// Appends octets that are UTF-8 as a text, others in hexadecimal.

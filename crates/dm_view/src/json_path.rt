@@ -24,7 +24,7 @@ fn put_step(json: &mut JsonText, dictionary: &Dictionary, step: &Step) -> Result
 }
 
 /// Appends the groups round an AVP, the outermost first, and the end of their array.
-pub(crate) fn put_path(
+pub(crate) fn put_path_and_close(
     json: &mut JsonText,
     dictionary: &Dictionary,
     path: &[Step],

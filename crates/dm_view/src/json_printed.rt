@@ -252,7 +252,7 @@ impl Printed {
     }
 
     /// Appends a member that is a number from 0 on. `name` is its key as it is printed, as `"code":`.
-    pub(crate) fn number_member(&mut self, name: &str, value: u32) -> Result<(), AllocError>
+    pub(crate) fn number_behind_key(&mut self, name: &str, value: u32) -> Result<(), AllocError>
         requires { (k : List ℕ) × (name.now ≡ token_text (key k)) }
         ensures { (k : List ℕ) → name.now ≡ token_text (key k)
             → OnOk result (self.new ≡ self.old ++ key k ∷ number (decimal value) ∷ []) }
@@ -269,7 +269,7 @@ impl Printed {
     }
 
     /// Appends the text so far.
-    pub(crate) fn put_text(&self, text: &mut String) -> Result<(), AllocError>
+    pub(crate) fn put_printed(&self, text: &mut String) -> Result<(), AllocError>
         ensures { OnOk result (string_bytes text.new ≡ string_bytes text.old ++ print self.now) }
     {
         text.push_str(self.text.as_str())

@@ -134,14 +134,14 @@ impl JsonText {
         ensures { (k : List ℕ) → name.now ≡ token_text (key k)
             → OnOk result (self.new ≡ self.old ++ key k ∷ number (decimal value) ∷ []) }
     {
-        self.printed.number_member(name, value)
+        self.printed.number_behind_key(name, value)
     }
 
     /// The code of an AVP, as a member.
     pub(crate) fn code_member(&mut self, code: u32) -> Result<(), AllocError>
         ensures { OnOk result (self.new ≡ self.old ++ key (codes "code") ∷ number (decimal code) ∷ []) }
     {
-        self.printed.number_member("\"code\":", code)
+        self.printed.number_behind_key("\"code\":", code)
     }
 
     /// The flags of an AVP in words, as a member.
@@ -234,7 +234,7 @@ impl JsonText {
     pub fn put_line(self, text: &mut String) -> Result<(), AllocError>
         ensures { OnOk result (string_bytes text.new ≡ string_bytes text.old ++ print self ++ 10 ∷ []) }
     {
-        let done = self.printed.put_text(text);
+        let done = self.printed.put_printed(text);
         drop(self);
         done?;
         text.push_str("\n")

@@ -22,7 +22,7 @@ impl fmt::Display for Quoted<'_> {
 
     #[tactic(auto, unfolding(crate::specs::Words::quoted))]
     fn fmt<W: fmt::Write>(&self, f: &mut fmt::Formatter<W>) -> fmt::Result {
-        if are_plain(self.0.as_bytes()) {
+        if are_quotable(self.0.as_bytes()) {
             write!(f, "\"{}\"", self.0)
         } else {
             write!(f, "{}", Hexadecimal(self.0.as_bytes()))
@@ -31,7 +31,7 @@ impl fmt::Display for Quoted<'_> {
 }
 
 /// Whether no octet is a control or a `"`.
-fn are_plain(octets: &[u8]) -> bool
+fn are_quotable(octets: &[u8]) -> bool
     ensures { result ≡ list_all is_plain_octet octets.now }
 {
     octets
@@ -45,7 +45,7 @@ pub(crate) fn put_quoted(text: &mut String, octets: &[u8]) -> Result<(), AllocEr
     requires { IsUtf8 octets.now }
     ensures { OnOk result (string_bytes text.new ≡ string_bytes text.old ++ quoted octets.now) }
 {
-    if are_plain(octets) {
+    if are_quotable(octets) {
         text.push_str("\"")?;
         text.push_str(unsafe { str::from_utf8_unchecked(octets) })?;
         text.push_str("\"")
@@ -106,7 +106,11 @@ pub(crate) fn put_unsigned(text: &mut String, number: u64) -> Result<(), AllocEr
 }
 
 /// Appends words, and a number in decimal.
-pub(crate) fn put_number(text: &mut String, words: &str, number: u32) -> Result<(), AllocError>
+pub(crate) fn put_words_and_number(
+    text: &mut String,
+    words: &str,
+    number: u32,
+) -> Result<(), AllocError>
     ensures { OnOk result (string_bytes text.new ≡ string_bytes text.old ++ words.now ++ decimal number) }
 {
     text.push_str(words)?;

@@ -1,7 +1,7 @@
 -- How a run stops, by what else is known of its text.
 use Rattle.std.proofs.Common.{ℕ, Bool, List, Option, ◌++◌}
-use Rattle.dm_view_lines.specs.declared.fault.LinesFault.{LinesFault}
-use Rattle.dm_view_lines.specs.declared.fault.LinesFault.TheVariants.{Memory, Write}
+use Rattle.dm_view_lines.specs.declared.lines_fault.LinesFault.{LinesFault}
+use Rattle.dm_view_lines.specs.declared.lines_fault.LinesFault.TheVariants.{Memory, Write}
 use Rattle.dm_view_lines.specs.Run.{EndsBy}
 
 -- a front of a text of the one kind is a front of one of the other

@@ -1,8 +1,8 @@
 -- How a run stops before its end.
 use Rattle.std.specs.Prelude.{ℕ, Bool, List, ◌++◌, Option}
 use Rattle.std.specs.Io.KnownBytes.{Appends, Keeps}
-use Rattle.dm_view_lines.specs.declared.fault.LinesFault.{LinesFault}
-use Rattle.dm_view_lines.specs.declared.fault.LinesFault.TheVariants.{Memory, Write}
+use Rattle.dm_view_lines.specs.declared.lines_fault.LinesFault.{LinesFault}
+use Rattle.dm_view_lines.specs.declared.lines_fault.LinesFault.TheVariants.{Memory, Write}
 
 -- for want of memory, and nothing is written; or by a failed write, and a front of the text is written
 abbrev pub EndsBy : (List ℕ → Bool → Type 0) → Option (List ℕ) → Option (List ℕ) → LinesFault → Type 0

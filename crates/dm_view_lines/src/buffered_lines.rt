@@ -1,4 +1,4 @@
-//! A run over a reader: its lines are said as they come, and what is said is written before more is read.
+//! The loop of a run over a reader: its lines are said as they come, and what is said is written before more is read.
 ghost use Rattle.std.specs.Prelude.{◌≡◌, ◌≢◌, All, List, ℕ, true, [], IfOk, IfErr, IfSome, OnOk, OnSome};
 ghost use Rattle.std.specs.Io.{StartsWith};
 ghost use Rattle.std.specs.Io.KnownBytes.{Consumes, IsAtEnd};
@@ -218,7 +218,7 @@ fn say_all_buffered<S: Speaker, R: BufRead, W: Write>(
 
 /// Says the lines of a reader behind so many others, up to one behind which nothing more is to be said. It tells how
 /// many were said, and whether more could be said.
-pub(crate) fn say_reader<S: Speaker, R: BufRead, W: Write>(
+pub(crate) fn say_buffered_lines<S: Speaker, R: BufRead, W: Write>(
     alloc: Global,
     dictionary: &Dictionary,
     style: Style,

@@ -1,4 +1,4 @@
-//! The lines of octets, each said in turn.
+//! The lines of octets at hand, each said in turn and gathered behind what waits.
 ghost use Rattle.std.specs.Prelude.{◌≡◌, ◌≤◌, ◌+◌, true, [], ◌∷◌, length, IfOk, IfErr, OnOk};
 ghost use Rattle.std.specs.Str.Lines.{lines};
 ghost use Rattle.dm_view_lines.specs.Colours.{styled};

@@ -9,7 +9,7 @@ ghost use Rattle.dm_view_lines.specs.Reasons.{refusal_sentence};
 
 use crate::front::Front;
 use crate::json_parts::{put_bad_if_checked, put_error_and_close};
-use crate::reasons::refusal_sentence;
+use crate::refusal_words::refusal_sentence;
 use crate::refused::message_to_bad_avp;
 use dm_dict::Dictionary;
 use dm_view::{JsonText, put_json_header, put_json_message};
@@ -65,7 +65,11 @@ fn put_json_front_checked(
 }
 
 /// Appends why octets are no message, and closes the object.
-fn put_reason(alloc: Global, json: &mut JsonText, fault: WireFault) -> Result<(), AllocError>
+fn put_reason_and_close(
+    alloc: Global,
+    json: &mut JsonText,
+    fault: WireFault,
+) -> Result<(), AllocError>
     ensures { OnOk result (json.new ≡ json.old ++ members_tokens (error_member (refusal_sentence fault))) }
 {
     let words = refusal_sentence(alloc, fault)?;
@@ -88,7 +92,7 @@ fn put_shown_refusal_object<F: Front>(
     json.begin_object()?;
     front.put_members(alloc, json)?;
     put_json_front_shown(json, dictionary, octets, fault)?;
-    put_reason(alloc, json, fault)?;
+    put_reason_and_close(alloc, json, fault)?;
     Ok(())
 }
 
@@ -127,7 +131,7 @@ fn put_checked_refusal_object<F: Front>(
     front.put_members(alloc, json)?;
     put_bad_if_checked(json, true)?;
     put_json_front_checked(json, dictionary, octets, fault)?;
-    put_reason(alloc, json, fault)?;
+    put_reason_and_close(alloc, json, fault)?;
     Ok(())
 }
 

@@ -3,7 +3,7 @@ ghost use Rattle.std.specs.Prelude.{◌≡◌, true};
 ghost use Rattle.dm_view_lines.specs.Counts.{no_lines};
 ghost use Rattle.dm_view_lines.specs.Speakers.{CountsOneLine};
 
-use crate::lines::put_line_report;
+use crate::line_reports::put_line_report;
 use crate::message_reports::Task;
 use crate::speaker::Speaker;
 use crate::tally::Tally;

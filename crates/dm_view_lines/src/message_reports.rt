@@ -1,4 +1,4 @@
-//! What is said of octets.
+//! What is said of octets: of the message that they are, or why they are none.
 ghost use Rattle.std.specs.Prelude.{◌≡◌, ◌++◌, ℕ, List, IfOk, OnOk};
 ghost use Rattle.std.specs.String.{string_bytes};
 ghost use Rattle.dm_wire.specs.declared.avp.Avp.{Avp};

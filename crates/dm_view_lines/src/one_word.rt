@@ -6,22 +6,22 @@ ghost use Rattle.dm_view_lines.specs.OneWord.{low_marks, ends_digits, NoneEnds};
 
 use std::simd::prelude::*;
 
-/// Whether a line is one word for sure: of sixteen octets or more, with nothing in front of its digits, and no octet
-/// that may stand between words or begin a comment. Other lines have to be looked at again.
-pub(crate) fn is_one_word(line: &[u8]) -> bool
+/// True only where a line stands for what one word of all its octets does: they are sixteen or more, nothing stands in
+/// front of the digits, and none may stand between words or begin a comment. Other lines have to be looked at again.
+pub(crate) fn is_one_long_word(line: &[u8]) -> bool
     ensures { result ≡ true → octets_of_line line.now ≡ word_octets line.now }
 {
     if line.len() < 16 {
         return false;
     }
-    if has_mark_or_prefix(line) {
+    if may_have_prefix(line) {
         return false;
     }
     has_no_word_end(line)
 }
 
-/// Whether a byte order mark or `0x` may stand in front.
-fn has_mark_or_prefix(line: &[u8]) -> bool
+/// False only where neither a byte order mark nor `0x` stands in front.
+fn may_have_prefix(line: &[u8]) -> bool
     ensures mark { result ≡ false → without_mark line.now ≡ line.now }
     ensures prefix { result ≡ false → without_prefix line.now ≡ line.now }
 {

@@ -10,7 +10,7 @@ ghost use Rattle.dm_view_lines.specs.Said.{front_shown, front_checked, before_re
 
 use crate::front::Front;
 use crate::header::header_of;
-use crate::reasons::put_refusal_line;
+use crate::refusal_words::put_refusal_line;
 use dm_dict::Dictionary;
 use dm_view::{put_header, put_message};
 use dm_wire::laws::spelled_are_members;

@@ -7,7 +7,7 @@ ghost use Rattle.dm_view_lines.specs.Ending.{EndsLines, EndsStream};
 ghost use Rattle.dm_view_lines.specs.LineEnds.{ended};
 ghost use Rattle.dm_view_lines.specs.declared.gathered_lines.TheConstants.{LINE_LIMIT as line_limit};
 
-use crate::buffered_lines::say_reader;
+use crate::buffered_lines::say_buffered_lines;
 use crate::ending::{write_lines_end, write_stream_end};
 use crate::line_speaker::LineSpeaker;
 use crate::message_reports::Task;
@@ -44,7 +44,7 @@ pub fn say_lines<R: BufRead, W: Write>(
 {
     let style = Style { task, coloured };
     let mut speaker = LineSpeaker::new(alloc);
-    let said = say_reader(alloc, dictionary, style, &mut speaker, 0, reader, writer);
+    let said = say_buffered_lines(alloc, dictionary, style, &mut speaker, 0, reader, writer);
     let tally = speaker.tally();
     drop(speaker);
     match said {
@@ -74,7 +74,7 @@ pub fn say_stream<R: BufRead, W: Write>(
     whole_frames();
     let style = Style { task, coloured };
     let mut speaker = StreamSpeaker::new(alloc);
-    let said = say_reader(alloc, dictionary, style, &mut speaker, 0, reader, writer);
+    let said = say_buffered_lines(alloc, dictionary, style, &mut speaker, 0, reader, writer);
     let tally = speaker.tally();
     let stop = speaker.stop();
     drop(speaker);

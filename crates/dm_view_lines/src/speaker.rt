@@ -1,4 +1,4 @@
-//! What says something of each line in turn.
+//! The trait of what says something of each line in turn.
 ghost use Rattle.std.specs.Prelude.{◌≡◌, ◌++◌, ℕ, Bool, true, List, IfOk};
 ghost use Rattle.std.specs.String.{string_bytes};
 ghost use Rattle.dm_tables.specs.Definitions.{Definitions};

@@ -1,14 +1,14 @@
 //! Why a stream is read no further (RFC 6733, 3 and 7.1.5).
-ghost use Rattle.std.specs.Prelude.{◌≡◌, ◌++◌, ◌+◌, IfOk, OnOk};
+ghost use Rattle.std.specs.Prelude.{◌≡◌, ◌++◌, ◌+◌, ℕ, List, None, length, IfOk, OnOk};
 ghost use Rattle.std.specs.String.{string_bytes};
 ghost use Rattle.dm_view_lines.specs.Counts.{tallied, tally_of};
 ghost use Rattle.dm_view_lines.specs.Frames.{stream_refusal, line_stopped, part_words, stop_line, stop_text};
-ghost use Rattle.dm_view_lines.specs.Frames.{stop_verdict};
+ghost use Rattle.dm_view_lines.specs.Frames.{stop_of, stop_verdict};
 
 use crate::bad_line::put_bad_line;
 use crate::json_parts::put_error_line;
 use crate::message_reports::Task;
-use crate::reasons::refusal_sentence;
+use crate::refusal_words::refusal_sentence;
 use crate::tally::Tally;
 use dm_dict::NoMemory;
 use dm_framer::FrameFault;
@@ -24,6 +24,16 @@ pub(crate) enum Stop {
     Line(u64),
     /// Of the last message there are so many octets, and more of it don't come.
     Part(usize),
+}
+
+/// That a stream ends in the middle of a message, of which so many octets are left; None where none are.
+pub(crate) fn partial_stop(held: usize) -> Option<Stop>
+    ensures { (rest : List ℕ) → held ≡ length rest → result ≡ stop_of rest None None }
+{
+    if held == 0 {
+        return None;
+    }
+    Some(Stop::Part(held))
 }
 
 /// The refusal of octets that no message begins with.

@@ -10,10 +10,10 @@ ghost use Rattle.dm_view_lines.specs.Counts.{tallied};
 ghost use Rattle.dm_view_lines.specs.Digits.{octets_of_line};
 ghost use Rattle.dm_view_lines.specs.Frames.{stream_of, bad_line, stop_of, SaysFrames, SaysStream};
 
-use crate::digits::read_line;
 use crate::frames::{Reading, put_frames};
+use crate::hexadecimal::read_line;
 use crate::message_reports::Task;
-use crate::stop::{Stop, put_stop};
+use crate::stop::{Stop, partial_stop, put_stop};
 use crate::tally::{Tally, put_last};
 use dm_dict::{Dictionary, NoMemory};
 use dm_framer::Framer;
@@ -146,16 +146,6 @@ fn put_stream(
         }
     }
     Ok((reading.tally, partial_stop(reading.held)))
-}
-
-/// That a stream ends in the middle of a message, of which so many octets are left; None where none are.
-pub(crate) fn partial_stop(held: usize) -> Option<Stop>
-    ensures { (rest : List ℕ) → held ≡ length rest → result ≡ stop_of rest None None }
-{
-    if held == 0 {
-        return None;
-    }
-    Some(Stop::Part(held))
 }
 
 /// What is said of the lines of an input as one stream, and whether all of it is good.

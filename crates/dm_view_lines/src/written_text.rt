@@ -1,12 +1,12 @@
-//! A run: what is said of an input, written.
+//! A run over an input at hand: what is said of it, written at its end.
 ghost use Rattle.std.specs.Prelude.{◌≡◌, ℕ, List, IfOk, IfErr, OnOk};
 ghost use Rattle.std.specs.Io.KnownBytes.{Appends};
 ghost use Rattle.dm_view_lines.specs.Colours.{styled, SaysStyled, SaysStreamStyled};
 ghost use Rattle.dm_view_lines.specs.Run.{EndsBy};
 
 use crate::colours::coloured_text;
-use crate::fault::LinesFault;
-use crate::lines::lines_text;
+use crate::line_reports::lines_text;
+use crate::lines_fault::LinesFault;
 use crate::message_reports::Task;
 use crate::stream_lines::stream_text;
 use dm_dict::Dictionary;

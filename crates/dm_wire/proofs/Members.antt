@@ -10,7 +10,7 @@ use Rattle.dm_wire.specs.Refusal.{BeginsWithNoAvp}
 use Rattle.dm_wire.proofs.Numbers.{IsOctets}
 use Rattle.dm_wire.proofs.Fronts.{spelled, header_above, octets_behind}
 use Rattle.dm_wire.proofs.Spellings.{front, same_made}
-use Rattle.dm_wire.specs.declared.borrowed.AvpRef.{AvpRef}
+use Rattle.dm_wire.specs.declared.avp_ref.AvpRef.{AvpRef}
 use Rattle.dm_wire.specs.Borrowed.{avp_of}
 use Rattle.dm_wire.specs.declared.avp_extent.Extent.{Extent}
 use Rattle.dm_wire.specs.Extents.{IsExtent}

@@ -1,7 +1,7 @@
 -- Borrowed AVPs, and lists of AVPs that are held or spelled by octets (RFC 6733, 4.1 and 4.4).
 use Rattle.std.specs.Prelude.{◌≡◌, ℕ, Some, List, length}
 use Rattle.dm_wire.specs.declared.avp.Avp.{Avp}
-use Rattle.dm_wire.specs.declared.borrowed.AvpRef.{AvpRef}
+use Rattle.dm_wire.specs.declared.avp_ref.AvpRef.{AvpRef}
 use Rattle.dm_wire.specs.declared.avps_ref.AvpsRef.{AvpsRef}
 use Rattle.dm_wire.specs.declared.avps_ref.AvpsRef.TheVariants.{Held, Spelled}
 use Rattle.dm_wire.specs.Members.{members}

@@ -2,7 +2,7 @@
 use Rattle.std.specs.Prelude.{◌≡◌, ℕ, ◌+◌, ◌<◌, ◌⊎◌, true, false, Option, None, Some}
 use Rattle.std.specs.Prelude.{Result, Ok, Err, List, [], ◌∷◌, ◌++◌, length, take, map}
 use Rattle.dm_wire.specs.declared.avp.Avp.{Avp}
-use Rattle.dm_wire.specs.declared.borrowed.AvpRef.{AvpRef}
+use Rattle.dm_wire.specs.declared.avp_ref.AvpRef.{AvpRef}
 use Rattle.dm_wire.specs.Borrowed.{avp_of}
 use Rattle.dm_wire.specs.Spelling.{SpellsAvp, SpellsList}
 use Rattle.dm_wire.specs.Refusal.{BeginsWithNoAvp, IsBadAt}

@@ -9,7 +9,7 @@ ghost use Rattle.dm_wire.specs.Codes.{max_command, max_avp_len, max_message_len}
 ghost use Rattle.dm_wire.specs.declared.fault.WireFault.{WireFault};
 
 use crate::codes::limits::{MAX_AVP_LEN, MAX_COMMAND, MAX_MESSAGE_LEN};
-use crate::size::header_len;
+use crate::size::avp_header_len;
 use crate::{Avp, AvpRef, Header, WireFault};
 use byteorder::{BigEndian, ByteOrder};
 use std::alloc::AllocError;
@@ -31,7 +31,7 @@ fn avp_flag_octet(avp: AvpRef<'_>) -> u8
 }
 
 /// The first eight octets of the header of the AVP with this Length.
-fn avp_header(avp: AvpRef<'_>, length: u32) -> [u8; 8]
+fn avp_header_front(avp: AvpRef<'_>, length: u32) -> [u8; 8]
     requires { length < 256 ^ 3 }
     ensures { result ≡ be avp.entry.code 4 ++ avp_flags (avp_of avp.entry) ∷ be length 3 }
 {
@@ -78,7 +78,7 @@ fn push_fitting_avp(out: &mut Vec<u8>, avp: AvpRef<'_>, length: usize) -> Result
     requires fits { avp_length (avp_of avp) < 256 ^ 3 }
     ensures { OnOk result (out.new.items ≡ out.old.items ++ canonical_avp (avp_of avp.entry)) }
 {
-    let header = avp_header(avp, length as u32);
+    let header = avp_header_front(avp, length as u32);
     out.extend_from_slice(&header)?;
     push_vendor(out, avp.vendor)?;
     out.extend_from_slice(avp.bytes)?;
@@ -98,7 +98,7 @@ pub fn push_avp(out: &mut Vec<u8>, avp: AvpRef<'_>) -> Result<(), WireFault>
     ensures unchanged { IsErrOf result WireFault.TooLong → out.new.items ≡ out.old.items }
     ensures fault { IfErr result (λ fault. (fault ≡ WireFault.TooLong) ⊎ (fault ≡ WireFault.NoMemory)) }
 {
-    let length = header_len(avp.vendor) + avp.bytes.len();
+    let length = avp_header_len(avp.vendor) + avp.bytes.len();
     if length > MAX_AVP_LEN as usize {
         return Err(WireFault::TooLong);
     }
@@ -114,7 +114,7 @@ pub(crate) fn push_avp_list(out: &mut Vec<u8>, avps: &[Avp]) -> Result<(), Alloc
     let mut left = avps;
     while let [avp, rest @ ..] = left {
         let avp = avp.borrowed();
-        push_fitting_avp(out, avp, header_len(avp.vendor) + avp.bytes.len())?;
+        push_fitting_avp(out, avp, avp_header_len(avp.vendor) + avp.bytes.len())?;
         left = rest;
     }
     Ok(())
@@ -159,7 +159,7 @@ fn write_fitting_avp(room: &mut [u8], avp: AvpRef<'_>, length: usize)
     requires zero { room.old ≡ replicate ((length + 3) / 4 * 4) 0 }
     ensures { room.new ≡ canonical_avp (avp_of avp.entry) }
 {
-    let front = avp_header(avp, length as u32);
+    let front = avp_header_front(avp, length as u32);
     room[..8].copy_from_slice(&front);
     match avp.vendor {
         None => room[8..length].copy_from_slice(avp.bytes),
@@ -180,7 +180,7 @@ fn write_avp_list(room: &mut [u8], avps: &[Avp])
     let mut left = avps;
     while let [avp, rest @ ..] = left {
         let avp = avp.borrowed();
-        let length = header_len(avp.vendor) + avp.bytes.len();
+        let length = avp_header_len(avp.vendor) + avp.bytes.len();
         let end = place + (length + 3) / 4 * 4;
         write_fitting_avp(&mut room[place..end], avp, length);
         place = end;

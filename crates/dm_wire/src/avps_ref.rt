@@ -5,7 +5,7 @@ ghost use Rattle.dm_wire.specs.declared.avp.Avp.{Avp};
 ghost use Rattle.dm_wire.specs.Members.{members};
 ghost use Rattle.dm_wire.specs.Borrowed.{avp_of, Lists, size_of};
 
-use crate::read::first_avp;
+use crate::first_avp_and_header::first_avp;
 use crate::walk::check_avps;
 use crate::{Avp, AvpRef};
 

@@ -7,8 +7,8 @@ ghost use Rattle.dm_wire.specs.Spelling.{SpellsList, SpellsMessage};
 ghost use Rattle.dm_wire.specs.Refusal.{IsTooShort, IsOtherVersion, IsOtherLength, IsBadAt, Refuses};
 
 use crate::avp_extent::{copy_first_avp, first_avp_extent};
+use crate::first_avp_and_header::read_header;
 use crate::message_ref::HEADER_LEN;
-use crate::read::read_header;
 use crate::walk::check_avps;
 use crate::{Avp, AvpList, Message, MessageRef, WireFault};
 use std::alloc::{AllocError, Global};
@@ -16,7 +16,8 @@ use std::alloc::{AllocError, Global};
 /// The most AVPs that are counted ahead, so that their list takes its room at once. A longer one grows as it is read.
 const SHORT_LIST: usize = 25;
 
-/// How many AVPs the octets begin with, or 0 where they are more than a short list has.
+/// How many AVPs the octets begin with, or 0 where they are more than a short list has. It is for their room alone: no
+/// clause says more than that it is 25 at most.
 fn count_avps_if_few(octets: &[u8]) -> usize
     ensures { result ≤ 25 }
 {
@@ -30,10 +31,10 @@ fn count_avps_if_few(octets: &[u8]) -> usize
     0
 }
 
-/// Copies of the AVPs at the front of the octets, pushed one after the other, and whether the octets are no more.
+/// Copies of the AVPs at the front of the octets, pushed one after the other; true only where the octets are no more.
 // (A function of its own in the machine's code too: among its caller's values the loop would lack registers.)
 #[inline(never)]
-fn push_avps(alloc: Global, avps: &mut Vec<Avp>, octets: &[u8]) -> Result<bool, AllocError>
+fn push_decoded_avps(alloc: Global, avps: &mut Vec<Avp>, octets: &[u8]) -> Result<bool, AllocError>
     requires empty { avps.old.items ≡ [] }
     ensures { result ≡ Ok true → SpellsList avps.new.items octets.now }
 {
@@ -51,14 +52,14 @@ fn copy_avps(alloc: Global, octets: &[u8]) -> Option<Vec<Avp>>
     ensures { IfSome result (λ avps. SpellsList avps.items octets.now) }
 {
     let mut avps = Vec::with_capacity(alloc, count_avps_if_few(octets)).ok()?;
-    match push_avps(alloc, &mut avps, octets) {
+    match push_decoded_avps(alloc, &mut avps, octets) {
         Ok(true) => Some(avps),
         _ => None,
     }
 }
 
 /// Why no AVPs came of these octets: a bad one, or want of memory.
-fn list_fault(octets: &[u8]) -> WireFault
+fn list_fault_or_no_memory(octets: &[u8]) -> WireFault
     ensures { ((l : List Avp) × (result ≡ WireFault.NoMemory) × SpellsList l octets.now)
         ⊎ ((o : ℕ) × (result ≡ WireFault.AvpLength o) × IsBadAt 0 octets.now o) }
 {
@@ -69,7 +70,7 @@ fn list_fault(octets: &[u8]) -> WireFault
 }
 
 /// Why no message came of these octets: what is wrong with them, or want of memory.
-fn message_fault(octets: &[u8]) -> WireFault
+fn message_fault_or_no_memory(octets: &[u8]) -> WireFault
     ensures { ((m : Message) × (result ≡ WireFault.NoMemory) × SpellsMessage m octets.now) ⊎ Refuses octets.now result }
 {
     match MessageRef::read(octets) {
@@ -86,7 +87,7 @@ fn read_message(alloc: Global, octets: &[u8]) -> Result<Message, WireFault>
 {
     let header = read_header(octets)?;
     let Some(avps) = copy_avps(alloc, &octets[HEADER_LEN..]) else {
-        return Err(message_fault(octets));
+        return Err(message_fault_or_no_memory(octets));
     };
     Ok(Message {
         header,
@@ -149,6 +150,6 @@ pub fn decode_avps(alloc: Global, octets: &[u8]) -> Result<Vec<Avp>, WireFault>
 {
     match copy_avps(alloc, octets) {
         Some(avps) => Ok(avps),
-        None => Err(list_fault(octets)),
+        None => Err(list_fault_or_no_memory(octets)),
     }
 }

@@ -7,7 +7,7 @@ ghost use Rattle.dm_wire.specs.Members.{members};
 ghost use Rattle.dm_wire.specs.Spelling.{SpellsList, SpellsMessage};
 ghost use Rattle.dm_wire.specs.Refusal.{IsTooShort, IsOtherVersion, IsOtherLength, IsBadAt, Refuses};
 
-use crate::read::read_header;
+use crate::first_avp_and_header::read_header;
 use crate::walk::check_avps;
 use crate::{Header, WireFault};
 

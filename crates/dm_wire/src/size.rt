@@ -30,12 +30,12 @@ impl AvpRef<'_> {
     pub fn padded_len(&self) -> usize
         ensures { result ≡ length (canonical_avp (avp_of self.now)) }
     {
-        (header_len(self.vendor) + self.bytes.len() + 3) / 4 * 4
+        (avp_header_len(self.vendor) + self.bytes.len() + 3) / 4 * 4
     }
 }
 
 /// The octets of the header of an AVP with this Vendor-ID.
-pub(crate) fn header_len(vendor: Option<u32>) -> usize
+pub(crate) fn avp_header_len(vendor: Option<u32>) -> usize
     ensures len { result ≡ avp_header_len vendor }
     ensures fits { IfSome vendor (λ v. v < 256 ^ 4) }
 {
@@ -53,7 +53,7 @@ fn avp_len(avp: &Avp) -> usize
 {
     // The contract speaks of the code, whose range is known once it is read.
     let _code = avp.code;
-    header_len(avp.vendor) + avp.bytes.as_slice().len()
+    avp_header_len(avp.vendor) + avp.bytes.as_slice().len()
 }
 
 /// 1 for a Length that its field doesn't hold, else 0: a number to add up, and no branch.

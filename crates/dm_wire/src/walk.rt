@@ -7,7 +7,7 @@ ghost use Rattle.dm_wire.specs.Members.{members};
 ghost use Rattle.dm_wire.specs.Walks.{walk_over};
 
 use crate::AvpRef;
-use crate::read::first_avp;
+use crate::first_avp_and_header::first_avp;
 use std::marker::Model;
 
 /// A walk over octets, one AVP at a time (RFC 6733, 4.1). It never answers want of memory.

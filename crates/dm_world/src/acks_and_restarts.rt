@@ -1,7 +1,8 @@
-//! The connect of a link that comes about, which makes an end, and a Restart, which goes over the ends that were made.
+//! The connect of a link that comes about, which makes an end, or that can't; and a Restart, which goes over the ends
+//! that were made.
 ghost use Rattle.std.specs.Prelude.{◌≡◌, IfOk, IfErr, OnErr, slice_get};
 ghost use Rattle.dm_two_peers.specs.Facts.{IsSoundWorld};
-ghost use Rattle.dm_two_peers.specs.Happens.{happens, Acks, restart_links};
+ghost use Rattle.dm_two_peers.specs.Happens.{happens, Acks, Nacks, restart_links};
 ghost use Rattle.dm_two_peers.specs.Worlds.{with_peer, peer_on};
 ghost use Rattle.dm_octet_peers.specs.Octets.{octet_peers};
 ghost use Rattle.dm_world.specs.Asking.{reset_of};
@@ -67,6 +68,23 @@ impl Net {
             made.add(opener.other(), index);
         }
         Ok(effect)
+    }
+
+    /// Tells the link's opener that its connect can't come about; ignored where no connect is pending.
+    pub(crate) fn nack(&mut self, alloc: Global, conn: Conn) -> Result<Effect, WorldFault>
+        ensures step { IfOk result (λ effect. Effects effect (happens octet_peers (as_world self.old) (Nacks conn.0))
+            (as_world self.old) (as_world self.new)) }
+        ensures fault { IfErr result (λ f. IsFault f (is_pending_at (slice_get (as_links self.old.links.items) conn.0))
+            (happens octet_peers (as_world self.old) (Nacks conn.0))) }
+        ensures unchanged { OnErr result (as_world self.new ≡ as_world self.old) }
+    {
+        let index = self.index_of(conn)?;
+        let link = &self.links[index];
+        if !link.is_pending() {
+            return Ok(Effect::Ignored);
+        }
+        let opener = link.opener;
+        Ok(self.tell_side(alloc, opener, Event::Nack(conn), None)?)
     }
 
     /// The side starts anew. That changes no links but those on which an end was made for it, and those that its peer

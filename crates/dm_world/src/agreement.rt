@@ -11,7 +11,7 @@ use crate::{Side, links};
 use dm_peer::{Conn, Peer};
 
 /// Whether the two connections are one; true too where one of them is missing.
-pub(crate) fn are_same_conn(one: Option<Conn>, other: Option<Conn>) -> bool
+pub(crate) fn are_one_conn_at_most(one: Option<Conn>, other: Option<Conn>) -> bool
     ensures { result ≡ are_one one other }
 {
     match (one, other) {
@@ -35,8 +35,8 @@ pub(crate) fn are_agreed(
             if of_a.0 == of_b.0 {
                 opposite
             } else {
-                links::is_coming(links, Side::A, of_a.0 as usize)
-                    && links::is_coming(links, Side::B, of_b.0 as usize)
+                links::is_disconnect_coming(links, Side::A, of_a.0 as usize)
+                    && links::is_disconnect_coming(links, Side::B, of_b.0 as usize)
             }
         }
         _ => true,
@@ -71,8 +71,8 @@ pub(crate) fn peers_agree(a: &Peer, b: &Peer, links: &[Link]) -> bool
 {
     let (initiated_a, accepted_a) = open_in_roles(a);
     let (initiated_b, accepted_b) = open_in_roles(b);
-    are_same_conn(initiated_a, accepted_a)
-        && are_same_conn(initiated_b, accepted_b)
+    are_one_conn_at_most(initiated_a, accepted_a)
+        && are_one_conn_at_most(initiated_b, accepted_b)
         && are_agreed(false, links, initiated_a, initiated_b)
         && are_agreed(true, links, initiated_a, accepted_b)
         && are_agreed(true, links, accepted_a, initiated_b)

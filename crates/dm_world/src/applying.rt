@@ -1,12 +1,12 @@
 //! One happening is one step of the world.
-ghost use Rattle.std.specs.Prelude.{◌≡◌, true, false, IfOk, IfErr, OnErr, slice_get};
+ghost use Rattle.std.specs.Prelude.{◌≡◌, true, false, IfOk, IfErr, OnErr};
 ghost use Rattle.dm_two_peers.specs.Facts.{IsSoundWorld};
-ghost use Rattle.dm_two_peers.specs.Happens.{happens, Nacks, Loses, Submits};
+ghost use Rattle.dm_two_peers.specs.Happens.{happens, Loses, Submits};
 ghost use Rattle.dm_octet_peers.specs.Octets.{octet_peers};
 ghost use Rattle.dm_machine.specs.Moves.{is_open};
 ghost use Rattle.dm_world.specs.Asking.{peer_of};
 ghost use Rattle.dm_world.specs.Ends.{AreNamed, AreSameEnds, AreEndsAfter};
-ghost use Rattle.dm_world.specs.Happening.{as_happening, is_pending_at, may_want};
+ghost use Rattle.dm_world.specs.Happening.{as_happening, may_want};
 ghost use Rattle.dm_world.specs.Seen.{as_links, as_side};
 ghost use Rattle.dm_world.specs.Views.{as_world, Effects, IsFault};
 
@@ -18,23 +18,6 @@ use dm_peer::{Conn, Event};
 use std::alloc::Global;
 
 impl Net {
-    /// Tells the link's opener that its connect can't come about; ignored where no connect is pending.
-    fn nack(&mut self, alloc: Global, conn: Conn) -> Result<Effect, WorldFault>
-        ensures step { IfOk result (λ effect. Effects effect (happens octet_peers (as_world self.old) (Nacks conn.0))
-            (as_world self.old) (as_world self.new)) }
-        ensures fault { IfErr result (λ f. IsFault f (is_pending_at (slice_get (as_links self.old.links.items) conn.0))
-            (happens octet_peers (as_world self.old) (Nacks conn.0))) }
-        ensures unchanged { OnErr result (as_world self.new ≡ as_world self.old) }
-    {
-        let index = self.index_of(conn)?;
-        let link = &self.links[index];
-        if !link.is_pending() {
-            return Ok(Effect::Ignored);
-        }
-        let opener = link.opener;
-        Ok(self.tell_side(alloc, opener, Event::Nack(conn), None)?)
-    }
-
     /// The link is lost, but for so many first octets towards A and towards B; ignored where that changes nothing.
     fn lose(&mut self, conn: Conn, to_a: u32, to_b: u32) -> Result<Effect, WorldFault>
         ensures step { IfOk result (λ effect. Effects effect
@@ -45,7 +28,7 @@ impl Net {
         ensures unchanged { OnErr result (as_world self.new ≡ as_world self.old) }
     {
         let index = self.index_of(conn)?;
-        if self.links[index].is_past_loss() {
+        if self.links[index].ignores_loss() {
             return Ok(Effect::Ignored);
         }
         self.links[index].lose(to_a, to_b);

@@ -11,7 +11,7 @@ ghost use Rattle.dm_world.specs.Seen.{as_side, as_links};
 ghost use Rattle.dm_world.specs.Views.{as_world, Effects, IsFault, front_of};
 
 use crate::direction::{Handed, Next, empty_framer};
-use crate::events_on_links::enter_link;
+use crate::events_on_links::enter_event_on_link;
 use crate::link::End;
 use crate::net::Net;
 use crate::{Effect, Side, WorldFault};
@@ -40,7 +40,12 @@ impl Net {
     }
 
     /// The front message comes to the side's end of the link. A shut end drops it unread.
-    fn message_comes(&mut self, alloc: Global, side: Side, index: usize) -> Result<Effect, NoMemory>
+    fn deliver_message_to(
+        &mut self,
+        alloc: Global,
+        side: Side,
+        index: usize,
+    ) -> Result<Effect, NoMemory>
         requires there { index < length self.old.links.items }
         ensures step { IfOk result (λ effect. (l : Link (List ℕ)) (x : List ℕ) →
             slice_get (as_links self.old.links.items) index ≡ Some l →
@@ -54,7 +59,7 @@ impl Net {
         match self.links[index].own_end(side) {
             End::Shut => {
                 let event = Event::Arrived(Conn(index as u64), b"");
-                enter_link(&mut self.links, side, event, Some(empty_framer(alloc)));
+                enter_event_on_link(&mut self.links, side, event, Some(empty_framer(alloc)));
                 Ok(Effect::Done)
             }
             End::Fresh | End::Open => self.hear_message(alloc, side, index),
@@ -62,7 +67,7 @@ impl Net {
     }
 
     /// The disconnect comes to the side's end of the link. A shut end drops it.
-    fn disconnect_comes(
+    fn deliver_disconnect_to(
         &mut self,
         alloc: Global,
         side: Side,
@@ -80,7 +85,7 @@ impl Net {
         let event = Event::Gone(Conn(index as u64));
         match self.links[index].own_end(side) {
             End::Shut => {
-                enter_link(&mut self.links, side, event, None);
+                enter_event_on_link(&mut self.links, side, event, None);
                 Ok(Effect::Done)
             }
             End::Fresh | End::Open => self.tell_side(alloc, side, event, None),
@@ -105,8 +110,8 @@ impl Net {
         let index = self.index_of(conn)?;
         match self.links[index].coming_next_to(side) {
             Next::Nothing => Ok(Effect::Ignored),
-            Next::Message => Ok(self.message_comes(alloc, side, index)?),
-            Next::Disconnect => Ok(self.disconnect_comes(alloc, side, index)?),
+            Next::Message => Ok(self.deliver_message_to(alloc, side, index)?),
+            Next::Disconnect => Ok(self.deliver_disconnect_to(alloc, side, index)?),
         }
     }
 
@@ -135,7 +140,7 @@ impl Net {
             Next::Disconnect | Next::Nothing => Ok(Effect::Ignored),
             Next::Message => {
                 if link.incoming(side).octets_left() <= count as usize {
-                    return Ok(self.message_comes(alloc, side, index)?);
+                    return Ok(self.deliver_message_to(alloc, side, index)?);
                 }
                 self.links[index].deliver_part(side, count as usize)?;
                 Ok(Effect::Done)

@@ -110,7 +110,7 @@ fn front_message(queue: &VecDeque<Octets>) -> Option<&[u8]>
 }
 
 /// How many of the messages lie wholly in so many first octets.
-fn whole_messages(queue: &VecDeque<Octets>, kept: usize) -> usize
+fn count_whole_messages(queue: &VecDeque<Octets>, kept: usize) -> usize
     ensures { take result queue.now.items ≡ whole_in length kept queue.now.items }
 {
     let mut rest = kept;
@@ -248,7 +248,7 @@ impl Direction {
         match self.mark {
             Mark::Delivered => {}
             _ => {
-                let count = whole_messages(&self.queue, kept as usize + self.taken);
+                let count = count_whole_messages(&self.queue, kept as usize + self.taken);
                 self.queue.truncate(count);
                 if count == 0 {
                     self.framer = empty_framer(*self.queue.allocator());

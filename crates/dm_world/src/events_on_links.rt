@@ -32,7 +32,7 @@ pub(crate) fn named_link(event: Event<'_>) -> Option<Conn>
 
 /// The event reaches the side's end of the link that it names, if there is one. Where a message arrived the framer
 /// takes the place of the one that holds octets of it.
-pub(crate) fn enter_link(
+pub(crate) fn enter_event_on_link(
     links: &mut Vec<Link>,
     side: Side,
     event: Event<'_>,
@@ -101,7 +101,7 @@ pub(crate) fn follow_event(
         (as_event (event_told event.entry)) actions.items peer.now
         (as_links links.old.items) }
 {
-    enter_link(links, side, event, framer);
+    enter_event_on_link(links, side, event, framer);
     perform_actions(links, side, actions);
     if let Event::Arrived(conn, _) = event {
         links::settle_link(links, side, conn.0 as usize, holds(peer, conn));

@@ -294,7 +294,7 @@ impl Link {
     }
 
     /// Whether a loss changes nothing: the link isn't up, or both ends are shut.
-    pub(crate) fn is_past_loss(&self) -> bool
+    pub(crate) fn ignores_loss(&self) -> bool
         ensures { result ≡ is_past_loss (as_link self.now) }
     {
         match (self.phase, self.opener_end, self.other_end) {

@@ -95,7 +95,7 @@ pub(crate) fn are_quiet(links: &[Link]) -> bool
 }
 
 /// Whether a disconnect is coming to the side on the link.
-pub(crate) fn is_coming(links: &[Link], side: Side, index: usize) -> bool
+pub(crate) fn is_disconnect_coming(links: &[Link], side: Side, index: usize) -> bool
     ensures { result ≡ is_coming_at (as_side side) (slice_get (as_links links.now) index) }
 {
     match links.get(index) {

@@ -46,7 +46,7 @@ pub(crate) fn holds(peer: &Peer, conn: Conn) -> bool
 
 /// Whether a peer takes such an event in its state: a Start in Closed, a Stop or a Submit where it is open, all else in
 /// each.
-fn is_in_place(peer: &Peer, event: Event<'_>) -> bool
+fn peer_takes(peer: &Peer, event: Event<'_>) -> bool
     ensures { result ≡ is_in_place peer.now.standing.core.state (event_told event.entry) }
 {
     match event {
@@ -82,7 +82,7 @@ impl Pair {
         refusals_go_by_rule();
         let peer = self.peer_at(side);
         let _shaped = peer.state();
-        is_in_place(peer, event)
+        peer_takes(peer, event)
     }
 
     /// What the side's peer asks for at the event. None where it refuses the event.

@@ -51,7 +51,7 @@ impl Debug for World {
 }
 
 /// Why there is no world of these configurations; None where there is one.
-fn pairing_fault(a: &Config, b: &Config) -> Option<NewFault>
+fn new_world_fault(a: &Config, b: &Config) -> Option<NewFault>
     ensures { result ≡ new_fault a.now b.now }
 {
     if !is_same_host(a.peer_host(), b.node().host()) {
@@ -175,7 +175,7 @@ impl World {
         ensures fine { IfOk result (λ w. new_fault a b ≡ None) }
         ensures world { IfOk result (λ w. w ≡ world_of (fresh_peer a) (fresh_peer b)) }
     {
-        match pairing_fault(&a, &b) {
+        match new_world_fault(&a, &b) {
             Some(fault) => {
                 discard(a);
                 discard(b);

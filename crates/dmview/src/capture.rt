@@ -80,7 +80,7 @@ fn option_text(alloc: Global, matches: &ArgMatches<'_>, name: &str) -> Result<Op
 }
 
 /// What of captures the words ask for.
-pub fn asked_of(alloc: Global, matches: &ArgMatches<'_>) -> Result<Asked> {
+pub fn capture_options_of(alloc: Global, matches: &ArgMatches<'_>) -> Result<Asked> {
     Ok(Asked {
         ports: ports_of(alloc, matches)?,
         host: option_text(alloc, matches, "peer")?,

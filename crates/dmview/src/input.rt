@@ -18,7 +18,7 @@ fn open_file(rt: &HostRuntime, name: &str) -> Result<File> {
 }
 
 /// Opens the texts of dictionaries, so that one that isn't there is told before anything is read.
-pub fn open_texts(rt: &HostRuntime, names: &[&str]) -> Result<Vec<File>> {
+pub fn open_dictionary_texts(rt: &HostRuntime, names: &[&str]) -> Result<Vec<File>> {
     let mut files = Vec::new(rt.alloc());
     for name in names {
         let file = open_file(rt, name)?;

@@ -13,10 +13,12 @@ mod dictionary;
 mod input;
 mod output;
 
-use crate::capture::{asked_of, has_capture_option, looks_of};
+use crate::capture::{capture_options_of, has_capture_option, looks_of};
 use crate::command::command_line;
 use crate::dictionary::dictionary_of_files;
-use crate::input::{file_with_front, first_is_capture, joined_files, open_files, open_texts};
+use crate::input::{
+    file_with_front, first_is_capture, joined_files, open_dictionary_texts, open_files,
+};
 use crate::output::write_said;
 use anyhow::{Context, Error, Result};
 use clap::{ArgMatches, error};
@@ -51,7 +53,7 @@ fn status_or_error(fault: RunFault, name: &str) -> Result<u8> {
 }
 
 /// Writes what is said of the inputs as they are read, and tells the status. They have these names.
-fn say_inputs<R: Read + Drop>(
+fn say_hexadecimal_inputs<R: Read + Drop>(
     rt: &HostRuntime,
     dictionary: &Dictionary,
     style: Style,
@@ -86,7 +88,7 @@ fn say_standard_input(
 ) -> Result<u8> {
     let mut inputs = Inputs::new(rt.alloc());
     inputs.push(rt.stdin()).context("dmview")?;
-    say_inputs(rt, dictionary, style, is_stream, inputs, &[])
+    say_hexadecimal_inputs(rt, dictionary, style, is_stream, inputs, &[])
 }
 
 /// Writes what is said of a capture, as it is read, and tells the status.
@@ -165,7 +167,7 @@ fn say_input(
         ),
         (InputKind::Lines { is_stream }, false) => {
             let inputs = joined_files(rt.alloc(), front, files)?;
-            say_inputs(rt, dictionary, style, is_stream, inputs, names)
+            say_hexadecimal_inputs(rt, dictionary, style, is_stream, inputs, names)
         }
         (InputKind::Captures(looks), true) => {
             say_one_capture(rt, dictionary, style, looks, rt.stdin(), "standard input")
@@ -228,10 +230,10 @@ fn run_subcommand(rt: &HostRuntime, is_check: bool, matches: &ArgMatches<'_>) ->
         coloured: is_coloured(rt, matches.get_str("color")),
     };
     let texts_names = matches.get_strs("dict").unwrap_or(&[]);
-    let texts = open_texts(rt, texts_names)?;
+    let texts = open_dictionary_texts(rt, texts_names)?;
     let names = matches.get_strs("file").unwrap_or(&[]);
     let mut files = open_files(rt, names)?;
-    let asked = asked_of(rt.alloc(), matches)?;
+    let asked = capture_options_of(rt.alloc(), matches)?;
     let mut front = VecDeque::new(rt.alloc());
     let is_capture = are_captures(rt, matches, &mut files, &mut front, names)?;
     if !is_capture && has_capture_option(matches) {

@@ -10,7 +10,7 @@ pub returns-clause-spelled : goal.returns-clause-spelled
 returns-clause-spelled c =
     let n = c.args.node.now in
     let to = c.args.to.now in
-    let octets : c.push_answer_avps.new.out.items ≡ canonical_message (built_answer n to success None) = search rules in
+    let octets : c.push_success_avps.new.out.items ≡ canonical_message (built_answer n to success None) = search rules in
     let fits : to.command < 256 ^ 3 = rw c.header_of_answer.ensures.header at c.in-Some.ensures.spelled.command_fits in
-    success_spelled c.canonical_spells.ensures c.built_is_spelled.ensures.answer n to c.push_answer_avps.new.out.items
+    success_spelled c.canonical_spells.ensures c.built_is_spelled.ensures.answer n to c.push_success_avps.new.out.items
     (c.header_of_answer.ensures.fits fits) octets

@@ -8,8 +8,8 @@ use Rattle.dm_dict.specs.Rules.{allows}
 use Rattle.dm_dict.proofs.Paths.{group_listed, located_next}
 use Rattle.dm_dict.proofs.avp_faults.+locating.Goals as goal
 
-pub locate_avp-locate_group-requires : goal.locate_avp-locate_group-requires
-locate_avp-locate_group-requires t c =
+pub add_avp_faults-add_group_faults-requires : goal.add_avp_faults-add_group_faults-requires
+add_avp_faults-add_group_faults-requires t c =
     let fit = c.requires.fit in
     let def = c.in-Some.field-0.def.now in
     let code = c.args.avp.code in
@@ -33,29 +33,29 @@ locate_avp-locate_group-requires t c =
       ),
     )
 
-pub locate_group-returns-in_default : goal.locate_group-returns-in_default
-locate_group-returns-in_default t c =
-    under_done c.locate_list.result
+pub add_group_faults-returns-in_default : goal.add_group_faults-returns-in_default
+add_group_faults-returns-in_default t c =
+    under_done c.add_faults_under_rule.result
     (λ listed. rw c.in_default.is
     (group_listed c.args.depth (λ e. omega (arith, e, c.if-depth-eq0.false)) c.args.dictionary.now.tables.avps.items
     c.args.nth c.args.rule.entries.now (avp_of c.args.avp) None None (found None c.args.findings.now)
-    (found None c.locate_list.new.findings) refl (sym c.spells_avps.ensures ∙ c.if-not-spells_avps.false)
+    (found None c.add_faults_under_rule.new.findings) refl (sym c.spells_avps.ensures ∙ c.if-not-spells_avps.false)
     (λ l is. listed l is)))
-    c.locate_list.ensures
+    c.add_faults_under_rule.ensures
 
-pub locate_group-returns : goal.locate_group-returns
-locate_group-returns t c =
+pub add_group_faults-returns : goal.add_group_faults-returns
+add_group_faults-returns t c =
     let outer = c.in-Some.path.now in
     let inner = c.inside-inside.result in
     rw c.in-Some.is
     (group_listed c.args.depth (λ e. omega (arith, e, c.if-depth-eq0.false)) c.args.dictionary.now.tables.avps.items
     c.args.nth c.args.rule.entries.now (avp_of c.args.avp) (Some outer) (Some inner) (found (Some outer) c.args.findings.now)
-    (found (Some inner) c.locate_list-2.new.findings) (ap Some c.inside-inside.ensures.inside)
+    (found (Some inner) c.add_faults_under_rule-2.new.findings) (ap Some c.inside-inside.ensures.inside)
     (sym c.spells_avps.ensures ∙ c.if-not-spells_avps.false)
-    (λ l is. c.in_ok-locate_list.ensures l is))
+    (λ l is. c.in_ok-add_faults_under_rule.ensures l is))
 
-pub locate_avps-loop-avp-preserved : goal.locate_avps-loop-avp-preserved
-locate_avps-loop-avp-preserved t c = λ all h.
+pub add_each_avp_faults-loop-avp-preserved : goal.add_each_avp_faults-loop-avp-preserved
+add_each_avp_faults-loop-avp-preserved t c = λ all h.
     let path = option_copied c.args.path in
     let avps = c.args.dictionary.now.tables.avps.items in
     let rule = c.args.rule.entries.now in
@@ -73,8 +73,8 @@ locate_avps-loop-avp-preserved t c = λ all h.
       c.in_ok-nth.ensures.counted p fits numbered,
       located_next path c.args.depth avps rule p m k a c.in_ok-nth.nth c.allows-allowed.result _ _ _ is
           (c.allows-allowed.ensures ∙ ap allows c.look_up_by_marks-place.ensures.entry)
-          (c.in_ok-nth.ensures.nth p fits numbered) c.in_ok-locate_avp.ensures so_far,
+          (c.in_ok-nth.ensures.nth p fits numbered) c.in_ok-add_avp_faults.ensures so_far,
     )
 
-pub locate_avps-loop-avp-init : goal.locate_avps-loop-avp-init
-locate_avps-loop-avp-init t c = λ all h. ([], all, h, omega arith, λ a wanted. rw c.requires.none refl, refl)
+pub add_each_avp_faults-loop-avp-init : goal.add_each_avp_faults-loop-avp-init
+add_each_avp_faults-loop-avp-init t c = λ all h. ([], all, h, omega arith, λ a wanted. rw c.requires.none refl, refl)

@@ -30,8 +30,8 @@ judge_avp-judge_group-requires t c =
       ),
     )
 
-pub judge_counted-loop-avp-preserved : goal.judge_counted-loop-avp-preserved
-judge_counted-loop-avp-preserved t c =
+pub judge_list_from-loop-avp-preserved : goal.judge_list_from-loop-avp-preserved
+judge_list_from-loop-avp-preserved t c =
     let avps = c.args.dictionary.now.tables.avps.items in
     let rule = c.args.rule.entries.now in
     let a = avp_of c.in-Some.avp in
@@ -47,8 +47,8 @@ judge_counted-loop-avp-preserved t c =
           c.count_at_entry.ensures.counted c.look_up_by_marks-place.ensures.counts,
     )
 
-pub judge_list_on_stack-judge_counted-requires : goal.judge_list_on_stack-judge_counted-requires
-judge_list_on_stack-judge_counted-requires t c = (
+pub judge_list_on_stack-judge_list_from-requires : goal.judge_list_on_stack-judge_list_from-requires
+judge_list_on_stack-judge_list_from-requires t c = (
   omega arith,
   (
     c.requires.linked,

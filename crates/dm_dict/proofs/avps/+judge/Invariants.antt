@@ -10,8 +10,8 @@ decreases-judge_list l = 5 * l.depth + 4
 abbrev pub decreases-judge_list_on_stack : goal.decreases-judge_list_on_stack
 decreases-judge_list_on_stack l = 5 * l.depth + 3
 
-abbrev pub decreases-judge_counted : goal.decreases-judge_counted
-decreases-judge_counted l = 5 * l.depth + 2
+abbrev pub decreases-judge_list_from : goal.decreases-judge_list_from
+decreases-judge_list_from l = 5 * l.depth + 2
 
 abbrev pub decreases-judge_avp : goal.decreases-judge_avp
 decreases-judge_avp l = 5 * l.depth + 1
@@ -19,10 +19,10 @@ decreases-judge_avp l = 5 * l.depth + 1
 abbrev pub decreases-judge_group : goal.decreases-judge_group
 decreases-judge_group l = 5 * l.depth
 
-abbrev pub invariant-judge_counted-loop-avp : goal.invariant-judge_counted-loop-avp
-invariant-judge_counted-loop-avp l =
+abbrev pub invariant-judge_list_from-loop-avp : goal.invariant-judge_list_from-loop-avp
+invariant-judge_list_from-loop-avp l =
     (all : List Avp) → Lists l.list all → (m : List Avp) × Lists l.left m
     × IsGoodBut l.depth l.dictionary.tables.avps.items l.rule.entries.now all m l.counts
 
-abbrev pub decreases-judge_counted-loop-avp : goal.decreases-judge_counted-loop-avp
-decreases-judge_counted-loop-avp l = size_of l.left
+abbrev pub decreases-judge_list_from-loop-avp : goal.decreases-judge_list_from-loop-avp
+decreases-judge_list_from-loop-avp l = size_of l.left

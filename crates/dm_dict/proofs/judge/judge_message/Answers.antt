@@ -4,12 +4,12 @@ use Rattle.dm_tables.specs.Tables.{defined}
 use Rattle.dm_dict.proofs.Fitting.{fit, apart_command, closed_command}
 use Rattle.dm_dict.proofs.judge.judge_message.Goals as goal
 
-pub judge_avps-requires-clause-fit : goal.judge_avps-requires-clause-fit
-judge_avps-requires-clause-fit c =
+pub judge_message_avps-requires-clause-fit : goal.judge_message_avps-requires-clause-fit
+judge_message_avps-requires-clause-fit c =
     fit (defined c.args.dictionary.now.tables) c.requires.linked.dictionary.tables.sound c.requires.linked.dictionary.closed
 
-pub judge_avps-requires-clause-rule : goal.judge_avps-requires-clause-rule
-judge_avps-requires-clause-rule c =
+pub judge_message_avps-requires-clause-rule : goal.judge_message_avps-requires-clause-rule
+judge_message_avps-requires-clause-rule c =
     let d = defined c.args.dictionary.now.tables in
     let command = c.in-Some.field-0.def.now in
     record {

@@ -10,7 +10,7 @@ loop-avp-preserved c = (
         n,
         behind,
         c.pass_avp_with_row.ensures.passed c.if-not-pass_avp_with_row.false c.args.rule.entries.now
-            c.in-Some-row_for.ensures all k n
+            c.in-Some-row_by_seat.ensures all k n
             before is,
       ),
   omega (arith, c.in-Some.ensures.less, c.loop-avp.invariant.1),

@@ -75,7 +75,7 @@ pass_octets_with_rows-loop-avp-preserved t c =
     let s = c.loop-avp.left.now in
     let n = c.in-Some.size in
     let a = avp_of c.in-Some.avp in
-    let stands = c.in-Some-row_for.ensures in
+    let stands = c.in-Some-row_by_seat.ensures in
     let good = looked_up (group_faults c.args.depth avps) _ _ a _ _ stands.allowed
     (c.passes_defined.ensures c.if-not-passes_defined.false) in
     let ((all, spelled, passed), within) = c.loop-avp.invariant in (
@@ -83,7 +83,7 @@ pass_octets_with_rows-loop-avp-preserved t c =
         λ m. all (a ∷ m),
         λ m h. spelled (a ∷ m)
             (take n s, _, rw (take_rest s n) (sym (take-append-drop n s)), c.in-Some.ensures.found, h),
-        λ l m before. one_passed c.args.depth avps rule l (a ∷ m) m a _ _ (Some c.in-Some-row_for.entry)
+        λ l m before. one_passed c.args.depth avps rule l (a ∷ m) m a _ _ (Some c.in-Some-row_by_seat.entry)
             (passed l (a ∷ m) before) refl good c.count_at_entry.ensures.size
             c.count_at_entry.ensures.counted stands.counts,
       ),

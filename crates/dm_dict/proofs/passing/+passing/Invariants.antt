@@ -7,11 +7,11 @@ use Rattle.dm_dict.proofs.passing.+passing.Given as goal
 abbrev pub decreases-passes_members : goal.decreases-passes_members
 decreases-passes_members l = 10 * l.depth + 9
 
-abbrev pub decreases-passes_many_entries : goal.decreases-passes_many_entries
-decreases-passes_many_entries l = 10 * l.depth + 8
+abbrev pub decreases-passes_under_many_entries : goal.decreases-passes_under_many_entries
+decreases-passes_under_many_entries l = 10 * l.depth + 8
 
-abbrev pub decreases-passes_few_entries : goal.decreases-passes_few_entries
-decreases-passes_few_entries l = 10 * l.depth + 8
+abbrev pub decreases-passes_under_few_entries : goal.decreases-passes_under_few_entries
+decreases-passes_under_few_entries l = 10 * l.depth + 8
 
 abbrev pub decreases-passes_with_counters : goal.decreases-passes_with_counters
 decreases-passes_with_counters l = 10 * l.depth + 7

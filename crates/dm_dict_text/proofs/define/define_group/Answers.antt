@@ -17,7 +17,7 @@ use Rattle.dm_dict_text.proofs.define.define_group.Goals as goal
 
 pub add_avp_or_stray-requires-clause-new : goal.add_avp_or_stray-requires-clause-new
 add_avp_or_stray-requires-clause-new c =
-    no_stray (making c.args.tables.now c.args.strays.now) (view_word c.args.item.now.name) c.in_ok-check_name.ensures.good
+    no_stray (making c.args.tables.now c.args.strays.now) (view_word c.args.item.now.name) c.in_ok-check_avp_name.ensures.good
 
 pub add_avp_or_stray-requires-clause-sound : goal.add_avp_or_stray-requires-clause-sound
 add_avp_or_stray-requires-clause-sound c =
@@ -43,7 +43,7 @@ add_avp_or_stray-requires-clause-sound c =
     (view_reference_option c.args.item.now.vendor) v
     (sound_parts (defined c.args.tables.now) c.requires.tables.sound).vendors
     c.in_ok-name.ensures c.in_ok-code.ensures.code (c.unwrap_or.ensures ∙ ap (λ o. unwrap_or o None) is)
-    (sym c.in_ok-code.ensures.vendor ∙ is) words.0 c.in_ok-check_name.ensures.good c.in_ok-code.ensures.good
+    (sym c.in_ok-code.ensures.vendor ∙ is) words.0 c.in_ok-check_avp_name.ensures.good c.in_ok-code.ensures.good
     (sound_rule entries c.in_ok-rule.rule rule words.1 good) refl
     (empty_list c.empty.result none) (empty_listing Grouped c.empty.result none)
 
@@ -86,4 +86,4 @@ returns-in_err-code-clause-fault c =
     let codes = code_faults m.definitions (view_word c.args.item.now.code) (view_reference_option c.args.item.now.vendor) in
     rw (p.1, p.2)
     (stops_left (names ++ codes) (rule_faults (map view_entry c.args.item.now.rule.items)) c.in_err-code.field-0.0
-    (stops_right names codes c.in_err-code.field-0.0 c.in_ok-check_name.ensures.good (inr c.in_err-code.ensures.fault)))
+    (stops_right names codes c.in_err-code.field-0.0 c.in_ok-check_avp_name.ensures.good (inr c.in_err-code.ensures.fault)))

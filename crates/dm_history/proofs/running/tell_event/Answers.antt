@@ -7,6 +7,6 @@ pub returns-clause-told : goal.returns-clause-told
 returns-clause-told c =
     λ first events before.
     one_more first events c.args.replies.now.items c.push_reserved.new.self.items c.in_ok-reply.reply c.args.peer.now
-    (event_told c.args.event) c.ask_peer.new.peer
+    (event_told c.args.event) c.reply_of_peer.new.peer
     (c.push_reserved.ensures.items ∙ ap (λ l. l ++ c.in_ok-reply.reply ∷ []) c.in_ok-reserve_reply.ensures.same) before
     c.in_ok-reply.ensures.replied

@@ -10,8 +10,8 @@ use Rattle.dm_live.proofs.answer.tell_next_on_conn.Goals as goal
 pub returns-in-Ok-clause-told : goal.returns-in-Ok-clause-told
 returns-in-Ok-clause-told c =
     let s = meeting_of c.args.node.now in
-    let t = meeting_of c.next_turn.new.node in
-    let found = turn_in c.args.conn c.next_turn.new.answer in
+    let t = meeting_of c.tell_turn.new.node in
+    let found = turn_in c.args.conn c.tell_turn.new.answer in
     let Next : NodeTurn → Type 0 = λ turn. MeetsNext (policy_of c.args.form) c.args.conn s turn t in
     done_so c.put_turn_if_any.result
     (λ more told is.
@@ -22,8 +22,8 @@ returns-in-Ok-clause-told c =
 pub returns-in-Ok-clause-out : goal.returns-in-Ok-clause-out
 returns-in-Ok-clause-out c =
     let s = meeting_of c.args.node.now in
-    let t = meeting_of c.next_turn.new.node in
-    let found = turn_in c.args.conn c.next_turn.new.answer in
+    let t = meeting_of c.tell_turn.new.node in
+    let found = turn_in c.args.conn c.tell_turn.new.answer in
     let Out : NodeState → Type 0 = λ v. NodeIsOut c.args.conn v in
     done_so c.put_turn_if_any.result
     (λ more out is.

@@ -5,10 +5,10 @@ pub piece-init : goal.piece-init
 piece-init g c = reading_none _ _ c.clear.ensures.items
 
 pub piece-preserved : goal.piece-preserved
-piece-preserved g c = reading_more _ _ _ _ _ _ c.piece.invariant c.in_ok-take_piece.ensures.taken c.if-branch.false
+piece-preserved g c = reading_more _ _ _ _ _ _ c.piece.invariant c.in_ok-extend_line.ensures.taken c.if-branch.false
 
 pub returns-then-branch-clause-given : goal.returns-then-branch-clause-given
 returns-then-branch-clause-given g c =
     line_or_end _ _ _ _ _
-    (read_through _ _ _ _ _ _ c.piece.invariant c.in_ok-take_piece.ensures.taken c.if-branch.true)
-    c.strip_line_end.ensures.none c.strip_line_end.ensures.some c.strip_line_end.ensures.line
+    (read_through _ _ _ _ _ _ c.piece.invariant c.in_ok-extend_line.ensures.taken c.if-branch.true)
+    c.strip_unless_empty.ensures.none c.strip_unless_empty.ensures.some c.strip_unless_empty.ensures.line

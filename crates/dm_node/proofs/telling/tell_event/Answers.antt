@@ -17,8 +17,8 @@ returns-in-Ok-tell_neighbours-clause-met g c =
     c.snapshot-before.ensures.state in
     meets_after policy c.args.event c.args.own.now ps c.tell_neighbours.new.neighbours
     c.tell_neighbours.new.answer.neighbour c.tell_neighbours.new.answer.actions.items (known_of c.args.known.now)
-    (known_of c.meet_after.new.known) c.snapshot-before.result.state c.requires.calm looked c.requires.places
-    c.in-Ok-tell_neighbours.ensures.told c.meet_after.ensures.met c.meet_after.ensures.unmet
+    (known_of c.meet_by_event.new.known) c.snapshot-before.result.state c.requires.calm looked c.requires.places
+    c.in-Ok-tell_neighbours.ensures.told c.meet_by_event.ensures.met c.meet_by_event.ensures.unmet
 
 pub returns-in-Ok-tell_neighbours-clause-places : goal.returns-in-Ok-tell_neighbours-clause-places
 returns-in-Ok-tell_neighbours-clause-places g c =
@@ -29,11 +29,11 @@ returns-in-Ok-tell_neighbours-clause-places g c =
     c.snapshot-before.ensures.state in
     known_told known_after policy c.args.event c.args.own.now ps c.tell_neighbours.new.neighbours
     c.tell_neighbours.new.answer.neighbour c.tell_neighbours.new.answer.actions.items (known_of c.args.known.now)
-    (known_of c.meet_after.new.known) c.requires.calm c.requires.places c.in-Ok-tell_neighbours.ensures.told
+    (known_of c.meet_by_event.new.known) c.requires.calm c.requires.places c.in-Ok-tell_neighbours.ensures.told
     (meets_after policy c.args.event c.args.own.now ps c.tell_neighbours.new.neighbours
     c.tell_neighbours.new.answer.neighbour c.tell_neighbours.new.answer.actions.items (known_of c.args.known.now)
-    (known_of c.meet_after.new.known) c.snapshot-before.result.state c.requires.calm looked c.requires.places
-    c.in-Ok-tell_neighbours.ensures.told c.meet_after.ensures.met c.meet_after.ensures.unmet)
+    (known_of c.meet_by_event.new.known) c.snapshot-before.result.state c.requires.calm looked c.requires.places
+    c.in-Ok-tell_neighbours.ensures.told c.meet_by_event.ensures.met c.meet_by_event.ensures.unmet)
 
 pub returns-in-Err-tell_neighbours-clause-wants : goal.returns-in-Err-tell_neighbours-clause-wants
 returns-in-Err-tell_neighbours-clause-wants g c = λ is.

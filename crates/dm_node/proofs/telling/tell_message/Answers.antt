@@ -17,9 +17,9 @@ returns-in-Ok-tell_neighbours-clause-met g c =
     c.snapshot-before.ensures.state in
     meets policy c.args.conn c.args.octets.now c.args.own.now ps c.tell_neighbours.new.neighbours
     c.tell_neighbours.new.answer.neighbour c.tell_neighbours.new.answer.actions.items (known_of c.args.known.now)
-    (known_of c.copy_exchange.new.known) (known_of c.meet_behind.new.known) c.snapshot-before.result.state c.in-Ok-copy_exchange.exchange looked
-    c.in-Ok-copy_exchange.ensures.copied c.copy_exchange.ensures.same c.in-Ok-tell_neighbours.ensures.told c.meet_behind.ensures.met
-    c.meet_behind.ensures.unmet
+    (known_of c.copy_exchange_and_reserve.new.known) (known_of c.meet_by_message.new.known) c.snapshot-before.result.state c.in-Ok-copy_exchange_and_reserve.exchange looked
+    c.in-Ok-copy_exchange_and_reserve.ensures.copied c.copy_exchange_and_reserve.ensures.same c.in-Ok-tell_neighbours.ensures.told c.meet_by_message.ensures.met
+    c.meet_by_message.ensures.unmet
 
 pub returns-in-Ok-tell_neighbours-clause-places : goal.returns-in-Ok-tell_neighbours-clause-places
 returns-in-Ok-tell_neighbours-clause-places g c =
@@ -30,52 +30,52 @@ returns-in-Ok-tell_neighbours-clause-places g c =
     c.snapshot-before.ensures.state in
     known_moved (λ state q a. known_at c.args.conn state q c.args.octets.now a) policy c.args.conn c.args.octets.now
     c.args.own.now ps c.tell_neighbours.new.neighbours c.tell_neighbours.new.answer.neighbour
-    c.tell_neighbours.new.answer.actions.items (known_of c.args.known.now) (known_of c.meet_behind.new.known) c.requires.places
+    c.tell_neighbours.new.answer.actions.items (known_of c.args.known.now) (known_of c.meet_by_message.new.known) c.requires.places
     c.in-Ok-tell_neighbours.ensures.told
     (meets policy c.args.conn c.args.octets.now c.args.own.now ps c.tell_neighbours.new.neighbours
     c.tell_neighbours.new.answer.neighbour c.tell_neighbours.new.answer.actions.items (known_of c.args.known.now)
-    (known_of c.copy_exchange.new.known) (known_of c.meet_behind.new.known) c.snapshot-before.result.state c.in-Ok-copy_exchange.exchange looked
-    c.in-Ok-copy_exchange.ensures.copied c.copy_exchange.ensures.same c.in-Ok-tell_neighbours.ensures.told c.meet_behind.ensures.met
-    c.meet_behind.ensures.unmet)
+    (known_of c.copy_exchange_and_reserve.new.known) (known_of c.meet_by_message.new.known) c.snapshot-before.result.state c.in-Ok-copy_exchange_and_reserve.exchange looked
+    c.in-Ok-copy_exchange_and_reserve.ensures.copied c.copy_exchange_and_reserve.ensures.same c.in-Ok-tell_neighbours.ensures.told c.meet_by_message.ensures.met
+    c.meet_by_message.ensures.unmet)
 
-pub meet_behind-requires-clause-room : goal.meet_behind-requires-clause-room
-meet_behind-requires-clause-room g c = λ i is none.
+pub meet_by_message-requires-clause-room : goal.meet_by_message-requires-clause-room
+meet_by_message-requires-clause-room g c = λ i is none.
     let policy = g.S.Strangers.policy c.args.strangers.now in
     let ps = c.args.neighbours.now in
     let looked = state_looked policy ps (event.Arrived c.args.conn c.args.octets) c.in-Ok.who _
     c.neighbours_are_sound.ensures.apart c.in-Ok.ensures.concerned c.in-Ok.ensures.nobody
     c.snapshot-before.ensures.state in
-    c.in-Ok-copy_exchange.ensures.room
+    c.in-Ok-copy_exchange_and_reserve.ensures.room
     (room_for policy c.args.conn c.args.octets.now c.args.own.now ps c.tell_neighbours.new.neighbours
     c.tell_neighbours.new.answer.neighbour c.tell_neighbours.new.answer.actions.items (known_of c.args.known.now)
     c.snapshot-before.result.state i c.requires.places looked c.in-Ok-tell_neighbours.ensures.told is
-    (ap (λ l. nat_lt i (length l)) (sym c.copy_exchange.ensures.same) ∙ none))
+    (ap (λ l. nat_lt i (length l)) (sym c.copy_exchange_and_reserve.ensures.same) ∙ none))
 
-pub meet_behind-requires-clause-there : goal.meet_behind-requires-clause-there
-meet_behind-requires-clause-there g c = λ i is stood.
+pub meet_by_message-requires-clause-there : goal.meet_by_message-requires-clause-there
+meet_by_message-requires-clause-there g c = λ i is stood.
     let policy = g.S.Strangers.policy c.args.strangers.now in
     let ps = c.args.neighbours.now in
     let looked = state_looked policy ps (event.Arrived c.args.conn c.args.octets) c.in-Ok.who _
     c.neighbours_are_sound.ensures.apart c.in-Ok.ensures.concerned c.in-Ok.ensures.nobody
     c.snapshot-before.ensures.state in
-    ap (λ l. nat_lt i (length l)) c.copy_exchange.ensures.same
+    ap (λ l. nat_lt i (length l)) c.copy_exchange_and_reserve.ensures.same
     ∙ open_has_place policy c.args.conn c.args.octets.now c.args.own.now ps c.tell_neighbours.new.neighbours
     c.tell_neighbours.new.answer.neighbour c.tell_neighbours.new.answer.actions.items (known_of c.args.known.now)
     c.snapshot-before.result.state i c.requires.places looked c.in-Ok-tell_neighbours.ensures.told is stood
 
-pub meet_behind-requires-clause-copied : goal.meet_behind-requires-clause-copied
-meet_behind-requires-clause-copied g c = λ stood.
-    open_copies_none c.args.octets.now c.in-Ok-copy_exchange.exchange c.snapshot-before.result.state
-    c.in-Ok-copy_exchange.ensures.copied stood
+pub meet_by_message-requires-clause-copied : goal.meet_by_message-requires-clause-copied
+meet_by_message-requires-clause-copied g c = λ stood.
+    open_copies_none c.args.octets.now c.in-Ok-copy_exchange_and_reserve.exchange c.snapshot-before.result.state
+    c.in-Ok-copy_exchange_and_reserve.ensures.copied stood
 
-pub returns-in-Err-copy_exchange-clause-memory : goal.returns-in-Err-copy_exchange-clause-memory
-returns-in-Err-copy_exchange-clause-memory g c =
+pub returns-in-Err-copy_exchange_and_reserve-clause-memory : goal.returns-in-Err-copy_exchange_and_reserve-clause-memory
+returns-in-Err-copy_exchange_and_reserve-clause-memory g c =
     let policy = g.S.Strangers.policy c.args.strangers.now in
     let ps = c.args.neighbours.now in
     let looked = state_looked policy ps (event.Arrived c.args.conn c.args.octets) c.in-Ok.who _
     c.neighbours_are_sound.ensures.apart c.in-Ok.ensures.concerned c.in-Ok.ensures.nobody
     c.snapshot-before.ensures.state in
-    inr (is_copied policy c.args.conn c.args.octets.now ps c.snapshot-before.result.state looked c.in-Err-copy_exchange.ensures.memory)
+    inr (is_copied policy c.args.conn c.args.octets.now ps c.snapshot-before.result.state looked c.in-Err-copy_exchange_and_reserve.ensures.memory)
 
 pub returns-in-Err-tell_neighbours-clause-memory : goal.returns-in-Err-tell_neighbours-clause-memory
 returns-in-Err-tell_neighbours-clause-memory g c =

@@ -16,8 +16,8 @@ returns-in-Ok-clause-closed g c =
     } in
     closed_moved c.each_event_names_what_it_takes.ensures.closed
     (closes_its_own c.each_event_is_one_step.ensures c.each_opening_has_its_message.ensures.closed) laws policy
-    c.args.event c.args.own.now c.args.neighbours.now c.tell_one_or_unknown.new.neighbours
-    c.tell_one_or_unknown.new.answer.neighbour c.tell_one_or_unknown.new.answer.actions.items c.neighbours_are_sound.ensures.kept
+    c.args.event c.args.own.now c.args.neighbours.now c.tell_one_or_handle_stranger.new.neighbours
+    c.tell_one_or_handle_stranger.new.answer.neighbour c.tell_one_or_handle_stranger.new.answer.actions.items c.neighbours_are_sound.ensures.kept
     c.neighbours_are_sound.ensures.apart.apart c.in-Ok.ensures.told
 
 pub returns-in-Ok-clause-held : goal.returns-in-Ok-clause-held
@@ -31,8 +31,8 @@ returns-in-Ok-clause-held g c =
       gives_up = c.each_opening_has_its_message.ensures.closed;
     } in
     held_moved c.each_event_names_what_it_takes.ensures.others laws policy c.args.event c.args.own.now
-    c.args.neighbours.now c.tell_one_or_unknown.new.neighbours c.tell_one_or_unknown.new.answer.neighbour
-    c.tell_one_or_unknown.new.answer.actions.items c.neighbours_are_sound.ensures.kept c.in-Ok.ensures.told
+    c.args.neighbours.now c.tell_one_or_handle_stranger.new.neighbours c.tell_one_or_handle_stranger.new.answer.neighbour
+    c.tell_one_or_handle_stranger.new.answer.actions.items c.neighbours_are_sound.ensures.kept c.in-Ok.ensures.told
 
 pub returns-in-Err-clause-refused : goal.returns-in-Err-clause-refused
 returns-in-Err-clause-refused g c =

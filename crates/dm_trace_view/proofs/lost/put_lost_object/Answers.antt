@@ -12,5 +12,5 @@ returns c =
     let numbered = c.in_ok-number.ensures in
     let from = c.in_ok-put_end_member.ensures (member (codes "to") (string (endpoint_text c.args.told.to)) lost) in
     let to = c.in_ok-put_end_member-2.ensures lost in
-    let ended = c.in_ok-put_lost_member.ensures in
+    let ended = c.in_ok-put_lost_and_close.ensures in
     rw (ended, to, from, numbered, named, opened) (simp append_assoc)

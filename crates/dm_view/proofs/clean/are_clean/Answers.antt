@@ -2,10 +2,10 @@ use Rattle.dm_view.proofs.CleanOctets.{all_clean}
 use Rattle.dm_view.proofs.clean.are_clean.Goals as goal
 
 pub returns-then-octets-ge16 : goal.returns-then-octets-ge16
-returns-then-octets-ge16 c = λ is. all_clean c.args.least c.args.octets.now (c.are_many_clean.ensures is)
+returns-then-octets-ge16 c = λ is. all_clean c.args.least c.args.octets.now (c.are_clean_by_sixteens.ensures is)
 
 pub returns-then-octets-ge8 : goal.returns-then-octets-ge8
-returns-then-octets-ge8 c = λ is. all_clean c.args.least c.args.octets.now (c.are_some_clean.ensures is)
+returns-then-octets-ge8 c = λ is. all_clean c.args.least c.args.octets.now (c.are_clean_by_eights.ensures is)
 
 pub returns-else-octets-ge8 : goal.returns-else-octets-ge8
-returns-else-octets-ge8 c = λ is. all_clean c.args.least c.args.octets.now (c.are_few_clean.ensures is)
+returns-else-octets-ge8 c = λ is. all_clean c.args.least c.args.octets.now (c.are_clean_singly.ensures is)

@@ -22,7 +22,7 @@ returns c =
     ++ failed_view avps f.fault.code (failed_length f.fault.failed) (option_map without_data f.fault.failed)
     = c.in_ok-put_failed_if_any.ensures
     ∙ (λ i. string_bytes c.put_path.new.text
-    ++ failed_view avps f.fault.code (c.failed_length-length.ensures i) (c.failed_without_data.ensures i)) in
+    ++ failed_view avps f.fault.code (c.failed_data_length-length.ensures i) (c.failed_without_data.ensures i)) in
     let ended : string_bytes c.push_str.new.self
     ≡ string_bytes c.put_failed_if_any.new.text ++ 10 ∷ [] = search rules in
     rw (ended, failed, groups, code) (simp append_assoc)

@@ -24,14 +24,14 @@ returns c =
     ∙ ap (λ s. c.number_member.new.self ++ key (codes "name") ∷ string s ∷ []) c.result_name.ensures in
     let named : c.key.new.self ≡ c.text_member.new.self ++ key (codes "path") ∷ [] = c.in_ok-key.ensures in
     let opened : c.begin_array.new.self ≡ c.key.new.self ++ begin_array ∷ [] = c.in_ok-begin_array.ensures in
-    let path : c.put_path.new.json ≡ c.begin_array.new.self ++ items_tokens (path_items avps f.path)
-    = c.in_ok-put_path.ensures
+    let path : c.put_path_and_close.new.json ≡ c.begin_array.new.self ++ items_tokens (path_items avps f.path)
+    = c.in_ok-put_path_and_close.ensures
     ∙ ap (λ p. c.begin_array.new.self ++ items_tokens (path_items avps p)) c.as_slice.ensures in
     let size = failed_length f.fault.failed in
-    let failed : c.put_json_failed_if_any.new.json ≡ c.put_path.new.json
+    let failed : c.put_failed_and_close.new.json ≡ c.put_path_and_close.new.json
     ++ members_tokens (failed_members avps f.fault.code size (option_map without_data f.fault.failed))
-    = c.in_ok-put_json_failed_if_any.ensures
-    ∙ (λ i. c.put_path.new.json
-    ++ members_tokens (failed_members avps f.fault.code (c.failed_length-length.ensures i)
+    = c.in_ok-put_failed_and_close.ensures
+    ∙ (λ i. c.put_path_and_close.new.json
+    ++ members_tokens (failed_members avps f.fault.code (c.failed_data_length-length.ensures i)
     (c.failed_without_data.ensures i))) in
     rw (failed, path, opened, named, name, code, begun) (simp append_assoc)

@@ -12,4 +12,4 @@ returns c =
     c.in_ok-end_array.ensures ∙ c.in_ok-put_word_if_meant-3.ensures no_items ∙
     c.in_ok-put_word_if_meant-2.ensures retransmitted
     ∙ c.in_ok-put_word_if_meant.ensures error
-    ∙ rw (c.in_ok-string.ensures, c.kind_words.ensures, c.in_ok-begin_array.ensures) (simp append_assoc)
+    ∙ rw (c.in_ok-string.ensures, c.request_or_answer.ensures, c.in_ok-begin_array.ensures) (simp append_assoc)

@@ -21,6 +21,6 @@ returns c =
     let flagged : c.key-2.new.self ≡ c.number_member.new.self ++ key (codes "flags") ∷ [] = c.in_ok-key-2.ensures in
     let flags : c.put_json_flag_words.new.json ≡ c.key-2.new.self ++ json_tokens (header_words h) =
     c.in_ok-put_json_flag_words.ensures in
-    let ended : c.put_identifiers.new.json ≡ c.put_json_flag_words.new.json ++ members_tokens (identifiers h)
-    = c.in_ok-put_identifiers.ensures in
+    let ended : c.put_identifiers_and_close.new.json ≡ c.put_json_flag_words.new.json ++ members_tokens (identifiers h)
+    = c.in_ok-put_identifiers_and_close.ensures in
     rw (ended, flags, flagged, code, name, named, begun) (simp append_assoc)

@@ -14,6 +14,6 @@ returns c l spelled more =
     = c.in_ok-put_json_header.ensures in
     let second : c.key-2.new.self ≡ c.put_json_header.new.json ++ key (codes "avps") ∷ [] = c.in_ok-key-2.ensures in
     let begun : c.begin_array.new.self ≡ c.key-2.new.self ++ begin_array ∷ [] = c.in_ok-begin_array.ensures in
-    let avps : c.put_avps.new.json ≡ c.begin_array.new.self ++ items_tokens (avps_items groups_shown d.avps l)
-    = c.in_ok-put_avps.ensures l (c.spelled_are_members.ensures _ l spelled) in
+    let avps : c.put_avps_and_close.new.json ≡ c.begin_array.new.self ++ items_tokens (avps_items groups_shown d.avps l)
+    = c.in_ok-put_avps_and_close.ensures l (c.spelled_are_members.ensures _ l spelled) in
     rw (avps, begun, second, header, named) (simp append_assoc)

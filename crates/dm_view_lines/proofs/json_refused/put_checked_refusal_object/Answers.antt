@@ -17,6 +17,6 @@ returns g c =
     let before : c.put_json_front_checked.new.json ++ members_tokens reason ≡
     c.put_bad_if_checked.new.json ++ members_tokens members
     = c.in_ok-put_json_front_checked.ensures reason in
-    let ended : c.put_reason.new.json ≡ c.put_json_front_checked.new.json ++ members_tokens reason
-    = c.in_ok-put_reason.ensures in
+    let ended : c.put_reason_and_close.new.json ≡ c.put_json_front_checked.new.json ++ members_tokens reason
+    = c.in_ok-put_reason_and_close.ensures in
     rw (ended, before, bad, fronted, opened) (simp append_assoc)

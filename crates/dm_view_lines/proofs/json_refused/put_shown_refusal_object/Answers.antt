@@ -14,6 +14,6 @@ returns g c =
     let before : c.put_json_front_shown.new.json ++ members_tokens reason ≡
     c.put_members.new.json ++ members_tokens members
     = c.in_ok-put_json_front_shown.ensures reason in
-    let ended : c.put_reason.new.json ≡ c.put_json_front_shown.new.json ++ members_tokens reason
-    = c.in_ok-put_reason.ensures in
+    let ended : c.put_reason_and_close.new.json ≡ c.put_json_front_shown.new.json ++ members_tokens reason
+    = c.in_ok-put_reason_and_close.ensures in
     rw (ended, before, fronted, opened) (simp append_assoc)

@@ -11,7 +11,7 @@ returns-in-Ok g c =
     let stays = c.fault_stays.ensures in
     let frames = c.whole_frames.ensures in
     let by : Stops cuts stays frames c.args.coloured c.args.task c.args.dictionary.now c.new-speaker.result
-    c.say_reader-said.new.speaker c.in-Ok.field-0.1 c.stop-stop.result c.tally-tally.result = record {
+    c.say_buffered_lines-said.new.speaker c.in-Ok.field-0.1 c.stop-stop.result c.tally-tally.result = record {
       begins = c.new-speaker.ensures.goes;
       none = c.new-speaker.ensures.held;
       nothing = c.new-speaker.ensures.tally;
@@ -21,11 +21,11 @@ returns-in-Ok g c =
       is = c.tally-tally.ensures;
     } in
     record {
-      written = stream_ended cuts stays frames _ _ _ c.new-speaker.result c.say_reader-said.new.speaker
+      written = stream_ended cuts stays frames _ _ _ c.new-speaker.result c.say_buffered_lines-said.new.speaker
           c.in-Ok.field-0.0 c.in-Ok.field-0.1 c.stop-stop.result c.tally-tally.result
           c.write_stream_end.result _ _ _ _ by
           c.in-Ok.ensures.told c.write_stream_end.ensures.written;
-      stopped = stream_left cuts stays frames _ _ _ c.new-speaker.result c.say_reader-said.new.speaker
+      stopped = stream_left cuts stays frames _ _ _ c.new-speaker.result c.say_buffered_lines-said.new.speaker
           c.in-Ok.field-0.0 c.in-Ok.field-0.1 c.stop-stop.result c.tally-tally.result
           c.write_stream_end.result _ _ _ _ _ by
           c.in-Ok.ensures.told c.write_stream_end.ensures.stopped;

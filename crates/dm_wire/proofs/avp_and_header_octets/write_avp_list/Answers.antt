@@ -12,8 +12,8 @@ loop-left-preserved c =
     let left = c.loop-left.left.now in
     let whole = first_and_rest left c.avp-item.result c.in-len1-up.len_at_least c.avp-item.is in
     let bytes = c.borrowed-avp.result.bytes.now in
-    let long : c.header_len.result + length bytes ≡ avp_length (avp_of c.borrowed-avp.result) =
-    ap (λ n. n + length bytes) c.header_len.ensures.len in
+    let long : c.avp_header_len.result + length bytes ≡ avp_length (avp_of c.borrowed-avp.result) =
+    ap (λ n. n + length bytes) c.avp_header_len.ensures.len in
     rw (take_rest left 1)
     (one_written c.avp-item.result c.loop-left.room c.write_fitting_avp.new.room c.loop-left.place _ left _
     c.args.avps.now

@@ -11,8 +11,9 @@ pub returns-in-Some-clause-refuses : goal.returns-in-Some-clause-refuses
 returns-in-Some-clause-refuses c = λ o bad. absurd (no_bad_in_list 0 _ c.args.octets.now o c.in-Some.ensures bad)
 
 pub returns-in-None-clause-only : goal.returns-in-None-clause-only
-returns-in-None-clause-only c = λ l sp. list_memory c.list_fault.result c.args.octets.now l c.list_fault.ensures sp
+returns-in-None-clause-only c =
+    λ l sp. list_memory c.list_fault_or_no_memory.result c.args.octets.now l c.list_fault_or_no_memory.ensures sp
 
 pub returns-in-None-clause-refuses : goal.returns-in-None-clause-refuses
 returns-in-None-clause-refuses c =
-    λ o bad. ap Err (bad_told c.list_fault.result c.args.octets.now o c.list_fault.ensures bad)
+    λ o bad. ap Err (bad_told c.list_fault_or_no_memory.result c.args.octets.now o c.list_fault_or_no_memory.ensures bad)

@@ -9,10 +9,11 @@ returns c =
     let d = defined c.self.inside.linked.tables in
     let avps = c.args.message.now.avps in
     rw (← c.self.view_is) (record {
-      all = under_ok c.collect_located.result _ _ (λ listed all. all avps c.as_slice.ensures)
-          c.collect_located.ensures.all;
-      found = under_ok c.collect_located.result _ _
-          (λ listed all. located_found d c.args.message.now listed.items (all avps c.as_slice.ensures)) c.collect_located.ensures.all;
-      memory = under_err c.collect_located.result (λ some. some avps c.as_slice.ensures)
-          c.collect_located.ensures.memory;
+      all = under_ok c.collect_located_faults.result _ _ (λ listed all. all avps c.as_slice.ensures)
+          c.collect_located_faults.ensures.all;
+      found = under_ok c.collect_located_faults.result _ _
+          (λ listed all. located_found d c.args.message.now listed.items (all avps c.as_slice.ensures))
+          c.collect_located_faults.ensures.all;
+      memory = under_err c.collect_located_faults.result (λ some. some avps c.as_slice.ensures)
+          c.collect_located_faults.ensures.memory;
     })

@@ -5,12 +5,12 @@ use Rattle.dm_live.specs.Drafts.{settings_of}
 use Rattle.dm_live.proofs.Untold.{no_specific, no_one}
 use Rattle.dm_live.proofs.configuration.Draft.take_line.Goals as goal
 
-pub returns-in-Some-read_vendor_application-clause-bad : goal.returns-in-Some-read_vendor_application-clause-bad
-returns-in-Some-read_vendor_application-clause-bad c =
+pub returns-in-Some-read_vendor_application_name-clause-bad : goal.returns-in-Some-read_vendor_application_name-clause-bad
+returns-in-Some-read_vendor_application_name-clause-bad c =
     let rest = words c.next.new.self in
-    no_specific c.take_vendor_application.result c.args.line.now c.in-Some-read_vendor_application.accounting rest
+    no_specific c.take_vendor_application.result c.args.line.now c.in-Some-read_vendor_application_name.accounting rest
     (settings_of c.args.self.now)
-    (sym (ap words c.new-left.ensures) ∙ c.in-Some.ensures.steps ∙ ap (λ w. w ∷ rest) c.in-Some-read_vendor_application.ensures.told)
+    (sym (ap words c.new-left.ensures) ∙ c.in-Some.ensures.steps ∙ ap (λ w. w ∷ rest) c.in-Some-read_vendor_application_name.ensures.told)
     c.take_vendor_application.ensures.bad
 
 pub returns-in-None-clause-bad : goal.returns-in-None-clause-bad

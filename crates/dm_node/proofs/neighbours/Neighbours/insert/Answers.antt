@@ -16,8 +16,8 @@ use Rattle.dm_node.proofs.Rostered.{kept_grown}
 use Rattle.dm_node.proofs.Welcomed.{apart_admitted}
 use Rattle.dm_node.proofs.neighbours.Neighbours.insert.Goals as goal
 
-pub count_added-self-inside-requires : goal.count_added-self-inside-requires
-count_added-self-inside-requires c =
+pub count_after_adding-self-inside-requires : goal.count_after_adding-self-inside-requires
+count_after_adding-self-inside-requires c =
     room_for c.self.inside.peers.items _ c.args.peer c.self.inside.present c.self.invariant.counted
     (c.deref.ensures.value ∙ c.push_reserved.ensures.items
     ∙ ap (λ l. l ++ Some c.args.peer ∷ []) c.reserve_place.ensures.same)
@@ -43,7 +43,7 @@ invariant_of-self c =
           ≡ if is_host (lower k.peer) h then Some (length ps) else noted_number c.self.inside.hosts h)
           c.config.ensures c.in-Ok.ensures.noted));
       counted = counted_put ps _ c.args.peer c.self.inside.present _ c.self.invariant.counted grown
-          c.count_added-self-inside.ensures;
+          c.count_after_adding-self-inside.ensures;
     }
 
 pub invariant_of-self-in-Err-1 : goal.invariant_of-self-in-Err-1

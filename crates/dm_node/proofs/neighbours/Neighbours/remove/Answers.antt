@@ -4,8 +4,8 @@ use Rattle.dm_node.proofs.Renamed.{named_without}
 use Rattle.dm_node.proofs.Rostered.{none_free, none_named, none_kept, apart_set, unlike_set, kept_set}
 use Rattle.dm_node.proofs.neighbours.Neighbours.remove.Goals as goal
 
-pub count_removed-self-inside-requires : goal.count_removed-self-inside-requires
-count_removed-self-inside-requires c =
+pub count_after_removing-self-inside-requires : goal.count_after_removing-self-inside-requires
+count_after_removing-self-inside-requires c =
     some_before c.self.inside.peers.items c.args.index c.self.inside.present c.take_out-gone.result
     c.take_out-gone.ensures.gone c.self.invariant.counted
 
@@ -22,5 +22,5 @@ invariant_of-self c =
           c.self.invariant.named;
       counted = counted_less ps _ c.args.index c.self.inside.present _ c.take_out-gone.result
           c.take_out-gone.ensures.gone c.self.invariant.counted c.take_out-gone.ensures.without
-          c.count_removed-self-inside.ensures.gone c.count_removed-self-inside.ensures.nobody;
+          c.count_after_removing-self-inside.ensures.gone c.count_after_removing-self-inside.ensures.nobody;
     }

@@ -15,13 +15,13 @@ returns-in-Ok-clause-turn g c =
     let qs = c.tell_message.new.neighbours in
     let answer = c.tell_message.new.answer in
     heard_where_it_lies policy c.args.conn c.args.piece.now old
-    (node_at old qs (intakes_of c.settle.new.slots)) (as_answer answer)
+    (node_at old qs (intakes_of c.settle_connections.new.slots)) (as_answer answer)
     qs c.in-Some.size c.in-Some.ensures.whole c.in-Ok.ensures.told
     (settled_as old qs answer.neighbour answer.actions.items _ _ _
-    c.settle.ensures.settled refl)
+    c.settle_connections.ensures.settled refl)
 
-pub settle-requires-clause-there : goal.settle-requires-clause-there
-settle-requires-clause-there g c =
+pub settle_connections-requires-clause-there : goal.settle_connections-requires-clause-there
+settle_connections-requires-clause-there g c =
     let at = c.in-Some.ensures.whole in
     let old = intakes_of c.args.self.now.intakes in
     c.tell_message.ensures.held old c.args.self.now.held
@@ -30,8 +30,8 @@ settle-requires-clause-there g c =
 pub invariant_of-self : goal.invariant_of-self
 invariant_of-self g c =
     record {
-      held = c.settle.ensures.held;
-      owned = c.settle.ensures.owned c.args.self.now.neighbours c.in-Ok.ensures.before c.args.self.now.owned;
+      held = c.settle_connections.ensures.held;
+      owned = c.settle_connections.ensures.owned c.args.self.now.neighbours c.in-Ok.ensures.before c.args.self.now.owned;
       met = c.tell_message.ensures.places;
     }
 
@@ -43,6 +43,6 @@ returns-in-Ok-clause-met g c =
     let old = node_state_of c.args.self.now in
     let qs = c.tell_message.new.neighbours in
     met_where_it_lies c.args.conn c.args.piece.now old
-    (node_at old qs (intakes_of c.settle.new.slots))
+    (node_at old qs (intakes_of c.settle_connections.new.slots))
     (as_answer c.tell_message.new.answer) c.in-Some.size (node_known_of c.args.self.now)
     (known_of c.tell_message.new.known) c.in-Some.ensures.whole c.in-Ok.ensures.met

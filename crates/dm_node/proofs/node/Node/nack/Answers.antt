@@ -7,7 +7,7 @@ use Rattle.dm_node.proofs.node.Node.nack.Goals as goal
 pub returns-in-Ok-clause-met : goal.returns-in-Ok-clause-met
 returns-in-Ok-clause-met c =
     let m = node_state_of c.tell_if_there.new.self in
-    let t = node_state_of c.shut_unheld.new.self in
+    let t = node_state_of c.shut_unless_held.new.self in
     after_moved (asks_of c.tell_if_there.new.answer) (node_state_of c.args.self.now) m t
-    (node_known_of c.args.self.now) _ _ (unheld_peers c.args.conn m t c.shut_unheld.ensures.shut)
-    c.shut_unheld.ensures.known c.in-Ok.ensures.met
+    (node_known_of c.args.self.now) _ _ (unheld_peers c.args.conn m t c.shut_unless_held.ensures.shut)
+    c.shut_unless_held.ensures.known c.in-Ok.ensures.met

@@ -18,7 +18,7 @@ returns-in-Ok-clause-turn g c =
     let qs = c.tell_message.new.neighbours in
     let gone = c.skip.ensures.skipped at.0 c.in-Message.message.now at.1 at.2 at.3 in
     let told : NodeTellsMessage policy c.args.conn old (as_answer c.tell_message.new.answer)
-    (node_at old qs (intakes_of c.settle.new.slots)) =
+    (node_at old qs (intakes_of c.settle_connections.new.slots)) =
     record {
       intake = at.0;
       message = c.in-Message.message.now;
@@ -29,7 +29,7 @@ returns-in-Ok-clause-turn g c =
         peers = qs;
         moved = c.in-Ok.ensures.told;
         left = settled_as old qs c.tell_message.new.answer.neighbour
-            c.tell_message.new.answer.actions.items _ _ _ c.settle.ensures.settled gone;
+            c.tell_message.new.answer.actions.items _ _ _ c.settle_connections.ensures.settled gone;
       };
     } in
     (refl, told)
@@ -37,8 +37,8 @@ returns-in-Ok-clause-turn g c =
 pub invariant_of-self-in-Ok : goal.invariant_of-self-in-Ok
 invariant_of-self-in-Ok g c =
     record {
-      held = c.settle.ensures.held;
-      owned = c.settle.ensures.owned c.args.self.now.neighbours c.in-Ok.ensures.before
+      held = c.settle_connections.ensures.held;
+      owned = c.settle_connections.ensures.owned c.args.self.now.neighbours c.in-Ok.ensures.before
           (owned_same c.args.self.now.neighbours (owners_of c.args.self.now.intakes)
           (owners_of c.skip.new.self) c.skip.ensures.owners c.args.self.now.owned);
       met = c.tell_message.ensures.places;
@@ -64,7 +64,7 @@ returns-in-Ok-clause-met g c =
     let at = c.in-Message.ensures in
     let old = node_state_of c.args.self.now in
     let qs = c.tell_message.new.neighbours in
-    let new = node_at old qs (intakes_of c.settle.new.slots) in
+    let new = node_at old qs (intakes_of c.settle_connections.new.slots) in
     let ks = node_known_of c.args.self.now in
     let ls = known_of c.tell_message.new.known in
     let answer = as_answer c.tell_message.new.answer in
@@ -79,8 +79,8 @@ returns-in-Ok-clause-met g c =
     } in
     met
 
-pub settle-requires-clause-there : goal.settle-requires-clause-there
-settle-requires-clause-there g c =
+pub settle_connections-requires-clause-there : goal.settle_connections-requires-clause-there
+settle_connections-requires-clause-there g c =
     let at = c.in-Message.ensures in
     let message = c.in-Message.message.now in
     let old = intakes_of c.args.self.now.intakes in

@@ -7,7 +7,7 @@ returns-in-Ok-clause-taken c =
     rw (c.in-Accept.is) (asks_nothing c.args.answer.now c.requires, c.in-Ok.ensures.opened)
 
 pub returns-in-Stop-clause-memory : goal.returns-in-Stop-clause-memory
-returns-in-Stop-clause-memory c = rw (c.in-Stop.is) c.tell_ordered-in-Stop.ensures.memory
+returns-in-Stop-clause-memory c = rw (c.in-Stop.is) c.tell_order_event-in-Stop.ensures.memory
 
 pub returns-in-Submit-clause-memory : goal.returns-in-Submit-clause-memory
-returns-in-Submit-clause-memory c = rw (c.in-Submit.is) c.tell_ordered-in-Submit.ensures.memory
+returns-in-Submit-clause-memory c = rw (c.in-Submit.is) c.tell_order_event-in-Submit.ensures.memory

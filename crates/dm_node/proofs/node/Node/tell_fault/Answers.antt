@@ -23,15 +23,15 @@ returns-in-Ok-clause-told g c =
         peers = qs;
         moved = c.in-Ok.ensures.told;
         left = settled_as old qs answer.neighbour answer.actions.items _ _ _
-            c.settle.ensures.settled (c.break_off.ensures.broken at.0 at.1);
+            c.settle_connections.ensures.settled (c.break_off.ensures.broken at.0 at.1);
       };
     }
 
 pub invariant_of-self : goal.invariant_of-self
 invariant_of-self g c =
     record {
-      held = c.settle.ensures.held;
-      owned = c.settle.ensures.owned c.args.self.now.neighbours c.in-Ok.ensures.before
+      held = c.settle_connections.ensures.held;
+      owned = c.settle_connections.ensures.owned c.args.self.now.neighbours c.in-Ok.ensures.before
           (owned_same c.args.self.now.neighbours (owners_of c.args.self.now.intakes)
           (owners_of c.break_off.new.self) c.break_off.ensures.owners c.args.self.now.owned);
       met = c.tell_event.ensures.places;
@@ -44,8 +44,8 @@ returns-in-Err-clause-memory g c = c.in-Err.ensures.memory c.args.conn [] refl
 pub tell_event-requires-clause-calm : goal.tell_event-requires-clause-calm
 tell_event-requires-clause-calm g c = none_calls
 
-pub settle-requires-clause-there : goal.settle-requires-clause-there
-settle-requires-clause-there g c =
+pub settle_connections-requires-clause-there : goal.settle_connections-requires-clause-there
+settle_connections-requires-clause-there g c =
     let at = c.requires.fault in
     let old = intakes_of c.args.self.now.intakes in
     let qs = c.tell_event.new.neighbours in

@@ -12,7 +12,7 @@ returns-in-len1-up-clause-left t c =
     let more = take (length actions - 1) (drop 1 actions) in
     let before = intakes_of c.args.self.now in
     let cut = cut_first actions first c.in-len1-up.len_at_least c.action-item.is in
-    c.leave.ensures.left ∙ ap (left_by more) c.leave_closed.ensures.left ∙ left_on first more before ∙
+    c.leave.ensures.left ∙ ap (left_by more) c.shut_on_close.ensures.left ∙ left_on first more before ∙
     ap (λ l. left_by l before) (sym cut)
 
 pub returns-in-len1-up-clause-owners : goal.returns-in-len1-up-clause-owners
@@ -22,5 +22,5 @@ returns-in-len1-up-clause-owners t c =
     let more = take (length actions - 1) (drop 1 actions) in
     let before = owners_of c.args.self.now in
     let cut = cut_first actions first c.in-len1-up.len_at_least c.action-item.is in
-    c.leave.ensures.owners ∙ ap (closed_by more) c.leave_closed.ensures.owners ∙ closed_on first more before ∙
+    c.leave.ensures.owners ∙ ap (closed_by more) c.shut_on_close.ensures.owners ∙ closed_on first more before ∙
     ap (λ l. closed_by l before) (sym cut)

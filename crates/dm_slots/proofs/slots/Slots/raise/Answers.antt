@@ -5,9 +5,9 @@ use Rattle.dm_slots.specs.Intakes.{raised_at}
 use Rattle.dm_slots.proofs.Steps.{raised_before}
 use Rattle.dm_slots.proofs.slots.Slots.raise.Goals as goal
 
-pub returns-else-not-is_raised-clause-raised : goal.returns-else-not-is_raised-clause-raised
-returns-else-not-is_raised-clause-raised c =
+pub returns-else-not-has_max-clause-raised : goal.returns-else-not-has_max-clause-raised
+returns-else-not-has_max-clause-raised c =
     let old = intakes_of c.args.self.now in
-    let at = c.is_raised.ensures.raised c.if-not-is_raised.false in
-    c.is_raised.ensures.same ∙ sym (ap (λ o. raised_at c.args.max o old) c.in-Some.is
+    let at = c.has_max.ensures.raised c.if-not-has_max.false in
+    c.has_max.ensures.same ∙ sym (ap (λ o. raised_at c.args.max o old) c.in-Some.is
     ∙ raised_before c.in-Some.conn c.args.max at.0 old at.1 at.2)

@@ -24,8 +24,8 @@ pub returns-then-octets_left-count-clause-step : goal.returns-then-octets_left-c
 returns-then-octets_left-count-clause-step c =
     let s = as_side c.args.side in
     let w = as_world c.args.self.now in
-    let next = as_world c.message_comes.new.self in
-    let outcome = c.in_ok-message_comes-in-Message.field-0 in
+    let next = as_world c.deliver_message_to.new.self in
+    let outcome = c.in_ok-deliver_message_to-in-Message.field-0 in
     let there = c.in_ok-index.ensures.there in
     let come : c.octets_left.result ≡ octets_to_come_to s (as_link c.index-link.result.now) =
     to_come_at s (as_link c.index-link.result.now) c.incoming.result.now.direction c.octets_left.result
@@ -36,7 +36,7 @@ returns-then-octets_left-count-clause-step c =
     subst (λ k. Effects outcome (happens octet_peers w (Pieces k s c.args.count)) w next) there.0
     (last_step s c.in_ok-index.index c.args.count outcome w next (as_link c.index-link.result.now)
     (link_at c.in_ok-index.index c.args.self.now.links.items c.index-link.result.now there.1 c.index-link.ensures)
-    (sym c.coming_next_to.ensures ∙ c.in-Message.is) (omega arith) above c.in_ok-message_comes-in-Message.ensures.step)
+    (sym c.coming_next_to.ensures ∙ c.in-Message.is) (omega arith) above c.in_ok-deliver_message_to-in-Message.ensures.step)
 
 pub returns-in-Disconnect-clause-step : goal.returns-in-Disconnect-clause-step
 returns-in-Disconnect-clause-step c =
@@ -77,12 +77,12 @@ returns-in_err-deliver_part-in-Message-clause-unchanged c =
     (same_links c.in_ok-index.index c.args.self.now.links.items _ c.deliver_part.new.self c.index_mut.ensures.value
     c.in_err-deliver_part-in-Message.ensures.unchanged))
 
-pub returns-in_err-message_comes-in-Message-clause-fault : goal.returns-in_err-message_comes-in-Message-clause-fault
-returns-in_err-message_comes-in-Message-clause-fault c =
+pub returns-in_err-deliver_message_to-in-Message-clause-fault : goal.returns-in_err-deliver_message_to-in-Message-clause-fault
+returns-in_err-deliver_message_to-in-Message-clause-fault c =
     let there =
     link_found c.args.conn.0 c.in_ok-index.index c.args.self.now.links.items c.index-link.result.now
     c.in_ok-index.ensures.there c.index-link.ensures in
-    let hears = c.in_err-message_comes-in-Message.ensures.heard (as_link c.index-link.result.now)
+    let hears = c.in_err-deliver_message_to-in-Message.ensures.heard (as_link c.index-link.result.now)
     (link_at c.in_ok-index.index c.args.self.now.links.items c.index-link.result.now c.in_ok-index.ensures.there.1
     c.index-link.ensures) in
     let want : IsTrue (is_fed_at (as_side c.args.side) c.args.count

@@ -13,7 +13,7 @@ returns-clause-step c =
     let there = c.in_ok-index.ensures.there in
     lose_step (as_world c.args.self.now) _ c.args.conn.0 c.args.to_a c.args.to_b (as_link c.index.result.now)
     (link_found c.args.conn.0 c.in_ok-index.index c.args.self.now.links.items c.index.result.now there c.index.ensures)
-    (sym c.is_past_loss.ensures ∙ c.if-is_past_loss.false)
+    (sym c.ignores_loss.ensures ∙ c.if-ignores_loss.false)
     (ap (λ ls. record { a = c.args.self.now.pair.a; b = c.args.self.now.pair.b; links = ls })
     (changed (lost_link length c.args.to_a c.args.to_b) c.in_ok-index.index c.args.self.now.links.items _
     c.lose.new.self c.index_mut.ensures.value there.1 c.lose.ensures

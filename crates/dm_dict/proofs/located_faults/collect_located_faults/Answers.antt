@@ -1,0 +1,14 @@
+-- What is listed at the top are the faults of the message.
+use Rattle.std.proofs.Common.{map, ap}
+use Rattle.dm_dict.specs.Locating.{told_at, path_of}
+use Rattle.dm_dict.proofs.Listed.{under_done, handed_ok}
+use Rattle.dm_dict.proofs.Paths.{found_at_top}
+use Rattle.dm_dict.proofs.located_faults.collect_located_faults.Goals as goal
+
+pub returns-clause-all : goal.returns-clause-all
+returns-clause-all c =
+    handed_ok c.find_faults-done.result c.find_faults-done.new.findings.located _ _ c.and.ensures
+    (under_done c.find_faults-done.result
+    (λ all l lists. found_at_top (path_of c.top-top.result) (map told_at c.new-findings.result.located.items) _ _
+    c.top-top.ensures.none (ap (map told_at) c.new-findings.ensures.located) (all l lists))
+    c.find_faults-done.ensures.all)

@@ -1,0 +1,147 @@
+//! Events that concern no neighbour: what is done at what a stranger sends.
+ghost use Rattle.std.specs.Prelude.{◌≡◌, ℕ, None, IfOk, IfErr, OnOk, OnErr, IsSome, All};
+ghost use Rattle.dm_node.specs.Calling.{caller_of, answer_to};
+ghost use Rattle.dm_node.specs.Strangers.{NodeMoves, NodeIsTold};
+ghost use Rattle.dm_node.specs.Telling.{Concerns, IsAddressed, IsStrangeCer};
+ghost use Rattle.dm_node.specs.declared.fault.OrderFault.TheVariants as faults;
+ghost use Rattle.dm_peer.specs.Spelled.{SendsSpelling};
+ghost use Rattle.dm_peer.specs.declared.fault.PeerFault.TheVariants as peer_faults;
+
+use crate::calling::caller;
+use crate::neighbours::Neighbours;
+use crate::newcomer::welcome;
+use crate::offered_config::offered_config;
+use crate::{Answer, NodeEvent, OrderFault, Strangers};
+use arrayvec::ArrayVec;
+use dm_base::codes::UNKNOWN_PEER;
+use dm_base::{Node, error_answer};
+use dm_dict::NoMemory;
+use dm_peer::{Action, Actions, Conn, PeerFault, sent_octets};
+use std::alloc::Global;
+
+/// What is done at an event that concerns no neighbour.
+#[derive(Drop)]
+pub(crate) struct StrangerActions {
+    /// The number of the neighbour that the stranger became, if it became one.
+    pub(crate) neighbour: Option<usize>,
+    /// What is to be done, in this order.
+    pub(crate) actions: Actions,
+}
+
+/// What is done on a stranger's connection: an answer 3010 (DIAMETER_UNKNOWN_PEER) to a CER, and a Close. Only the
+/// answer may want memory.
+fn refusing_actions(
+    alloc: Global,
+    own: &Node,
+    conn: Conn,
+    octets: &[u8],
+) -> Result<Actions, NoMemory>
+    ensures answer { IfOk result (λ actions. actions.items ≡ answer_to own.now conn (caller_of octets.now)) }
+    ensures spelled { IfOk result (λ actions. All SendsSpelling actions.items) }
+    ensures memory { OnErr result (IsSome (caller_of octets.now)) }
+{
+    let mut actions = ArrayVec::new();
+    if let Some((header, _)) = caller(octets) {
+        let answer = error_answer(alloc, own, &header, UNKNOWN_PEER)?;
+        actions.push(Action::Send(conn, sent_octets(alloc, &answer)?));
+    }
+    actions.push(Action::Close(conn));
+    Ok(actions)
+}
+
+/// What turns a stranger away: an answer where the octets are a CER, and a Close.
+fn turn_away(
+    alloc: Global,
+    own: &Node,
+    conn: Conn,
+    octets: &[u8],
+) -> Result<StrangerActions, OrderFault>
+    ensures nobody { IfOk result (λ r. r.neighbour ≡ None) }
+    ensures answer { IfOk result (λ r. r.actions.items ≡ answer_to own.now conn (caller_of octets.now)) }
+    ensures spelled { IfOk result (λ r. All SendsSpelling r.actions.items) }
+    ensures memory { IfErr result (λ f. (f ≡ faults.Peer peer_faults.NoMemory) × IsSome (caller_of octets.now)) }
+{
+    match refusing_actions(alloc, own, conn, octets) {
+        Ok(actions) => Ok(StrangerActions {
+            neighbour: None,
+            actions,
+        }),
+        Err(_) => Err(OrderFault::Peer(PeerFault::NoMemory)),
+    }
+}
+
+/// What is done at octets of a connection that concern no neighbour.
+fn welcome_or_turn_away<S: Strangers>(
+    alloc: Global,
+    own: &Node,
+    neighbours: &mut Neighbours,
+    strangers: &S,
+    conn: Conn,
+    octets: &[u8],
+) -> Result<StrangerActions, OrderFault>
+    requires { (i : ℕ) → IsAddressed (S.policy strangers.now) neighbours.old conn octets.now i → ⊥ }
+    ensures moved { IfOk result (λ r. NodeMoves (S.policy strangers.now) conn octets.now own.now
+        neighbours.old r.neighbour r.actions.items neighbours.new) }
+    ensures spelled { IfOk result (λ r. All SendsSpelling r.actions.items) }
+    ensures memory { IfErr result (λ f. (f ≡ faults.Peer peer_faults.NoMemory) × IsSome (caller_of octets.now)) }
+    ensures unchanged { OnErr result (neighbours.new ≡ neighbours.old) }
+{
+    match offered_config(alloc, neighbours, strangers, octets) {
+        Ok(Some(config)) => welcome(alloc, neighbours, config, conn, octets),
+        Ok(None) => turn_away(alloc, own, conn, octets),
+        Err(_) => Err(OrderFault::Peer(PeerFault::NoMemory)),
+    }
+}
+
+/// What is done at an event that concerns no neighbour.
+fn stranger_actions<S: Strangers>(
+    alloc: Global,
+    own: &Node,
+    neighbours: &mut Neighbours,
+    strangers: &S,
+    event: NodeEvent<'_>,
+) -> Result<StrangerActions, OrderFault>
+    requires { (i : ℕ) → Concerns (S.policy strangers.now) neighbours.old event i → ⊥ }
+    ensures told { IfOk result (λ r. NodeIsTold (S.policy strangers.now) event.entry own.now
+        neighbours.old r.neighbour r.actions.items neighbours.new) }
+    ensures spelled { IfOk result (λ r. All SendsSpelling r.actions.items) }
+    ensures memory { IfErr result (λ f. (f ≡ faults.Peer peer_faults.NoMemory) × IsStrangeCer event.entry) }
+    ensures unchanged { OnErr result (neighbours.new ≡ neighbours.old) }
+{
+    match event {
+        NodeEvent::Arrived(conn, octets) => {
+            welcome_or_turn_away(alloc, own, neighbours, strangers, conn, octets)
+        }
+        _ => Ok(StrangerActions {
+            neighbour: None,
+            actions: ArrayVec::new(),
+        }),
+    }
+}
+
+/// What is done at an event that concerns no neighbour, put into `answer`.
+#[inline(never)]
+pub(crate) fn handle_stranger_event<S: Strangers>(
+    alloc: Global,
+    own: &Node,
+    neighbours: &mut Neighbours,
+    strangers: &S,
+    event: NodeEvent<'_>,
+    answer: &mut Answer,
+) -> Result<(), OrderFault>
+    requires { (i : ℕ) → Concerns (S.policy strangers.now) neighbours.old event i → ⊥ }
+    ensures told { OnOk result (NodeIsTold (S.policy strangers.now) event.entry own.now neighbours.old
+        answer.new.neighbour answer.new.actions.items neighbours.new) }
+    ensures spelled { OnOk result (All SendsSpelling answer.new.actions.items) }
+    ensures memory { IfErr result (λ f. (f ≡ faults.Peer peer_faults.NoMemory) × IsStrangeCer event.entry) }
+    ensures unchanged { OnErr result (neighbours.new ≡ neighbours.old) }
+{
+    match stranger_actions(alloc, own, neighbours, strangers, event) {
+        Ok(done) => {
+            answer.neighbour = done.neighbour;
+            answer.actions = done.actions;
+            Ok(())
+        }
+        Err(fault) => Err(fault),
+    }
+}

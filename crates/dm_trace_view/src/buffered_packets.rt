@@ -1,0 +1,142 @@
+//! The loop of a run over a capture: its packets are said as they come, and that is written before more is read.
+ghost use Rattle.std.specs.Prelude.{◌≡◌, [], None, Ok, Err, false, IfOk, IfErr, IfSome, OnOk};
+ghost use Rattle.dm_capture.specs.Captures.{new_progress};
+ghost use Rattle.dm_view_lines.specs.Colours.{styled};
+ghost use Rattle.dm_view_lines.specs.Turns.{Settles};
+ghost use Rattle.dm_trace_view.specs.Feeds.{ReadsPiece, ReadsNoPiece, FileEnds};
+ghost use Rattle.dm_trace_view.specs.Packets.{TellsHeld, StopsHeld};
+ghost use Rattle.dm_trace_view.specs.Runs.{SaysFile, StopsFile};
+
+use crate::gathered_packets::{Output, gather_held_packets};
+use crate::speaker::PacketSpeaker;
+use dm_capture::laws::pieces_join;
+use dm_capture::{CaptureFault, CaptureReader};
+use dm_dict::Dictionary;
+use dm_view_lines::laws::gathered_texts;
+use dm_view_lines::{PutFault, RunFault, Style, write_waiting};
+use std::alloc::Global;
+use std::io::{BufRead, Error, ErrorKind, Write};
+
+/// Writes what waits though the run stops by this fault, unless it was a write that failed. It tells why the run stops.
+fn write_waiting_after_fault<W: Write>(
+    fault: PutFault,
+    output: &mut Output,
+    writer: &mut W,
+) -> PutFault
+    ensures { Settles (Err fault) (Err result) (W.contents writer.old) (W.contents writer.new) output.old.waits.items }
+{
+    match fault {
+        PutFault::Write(error) => PutFault::Write(error),
+        fault => match write_waiting(&mut output.waits, writer) {
+            Ok(()) => fault,
+            Err(other) => other,
+        },
+    }
+}
+
+/// Writes what is said of all whole packets that the capture holds. It answers the fault that stands behind them, or
+/// None.
+fn write_held_packets<S: PacketSpeaker, W: Write>(
+    alloc: Global,
+    dictionary: &Dictionary,
+    style: Style,
+    speaker: &mut S,
+    capture: &mut CaptureReader,
+    output: &mut Output,
+    writer: &mut W,
+) -> Result<Option<CaptureFault>, PutFault>
+    requires sound { capture.old.fault ≡ None }
+    requires none { output.old.waits.items ≡ [] }
+    ensures told { IfOk result (λ fault. TellsHeld (styled style.coloured style.task)
+        (S.says dictionary.now style.task) capture.old speaker.old fault capture.new speaker.new
+        (W.contents writer.old) [] (W.contents writer.new) []) }
+    ensures sound { result ≡ Ok None → capture.new.fault ≡ None }
+    ensures none { OnOk result (output.new.waits.items ≡ []) }
+    ensures stopped { IfErr result (λ fault. StopsHeld (styled style.coloured style.task)
+        (S.says dictionary.now style.task) capture.old speaker.old fault (W.contents writer.old) []
+        (W.contents writer.new) []) }
+{
+    gathered_texts();
+    match gather_held_packets(alloc, dictionary, style, speaker, capture, output, writer) {
+        Ok(fault) => {
+            write_waiting(&mut output.waits, writer)?;
+            Ok(fault)
+        }
+        Err(fault) => Err(write_waiting_after_fault(fault, output, writer)),
+    }
+}
+
+/// What is answered where a read fails: false where it was interrupted, so that it is made again, else the fault.
+fn fault_unless_interrupted(error: Error) -> Result<bool, RunFault>
+    ensures again { IfOk result (λ end. end ≡ false) }
+    ensures failed { IfErr result (λ fault. fault ≡ RunFault.Read error) }
+{
+    if error.kind() == ErrorKind::Interrupted {
+        return Ok(false);
+    }
+    Err(RunFault::Read(error))
+}
+
+/// Feeds the capture what the reader has at hand. True where the reader is at its end.
+fn feed_piece<R: BufRead>(capture: &mut CaptureReader, reader: &mut R) -> Result<bool, RunFault>
+    ensures fed { IfOk result (ReadsPiece capture.old (R.remaining reader.old) capture.new (R.remaining reader.new)) }
+    ensures none { IfErr result (λ fault. ReadsNoPiece fault capture.old (R.remaining reader.old) capture.new
+        (R.remaining reader.new)) }
+{
+    let octets = match reader.fill_buf() {
+        Ok(octets) => octets,
+        Err(error) => return fault_unless_interrupted(error),
+    };
+    let size = octets.len();
+    if capture.feed(octets).is_err() {
+        return Err(RunFault::Memory);
+    }
+    reader.consume(size);
+    Ok(size == 0)
+}
+
+/// What is wrong where the file ends; None where nothing is.
+fn fault_at_end(capture: &CaptureReader) -> Option<CaptureFault>
+    ensures { FileEnds capture.now result }
+{
+    match capture.end() {
+        Ok(()) => None,
+        Err(fault) => Some(fault),
+    }
+}
+
+/// Writes what is said of the packets of a capture that a reader gives, as they come. It answers the fault up to which
+/// they were read, or None where the file has none.
+pub(crate) fn say_packets<S: PacketSpeaker, R: BufRead, W: Write>(
+    alloc: Global,
+    dictionary: &Dictionary,
+    style: Style,
+    speaker: &mut S,
+    capture: &mut CaptureReader,
+    output: &mut Output,
+    reader: &mut R,
+    writer: &mut W,
+) -> Result<Option<CaptureFault>, RunFault>
+    requires fresh { capture.old ≡ new_progress }
+    requires none { output.old.waits.items ≡ [] }
+    ensures told { IfOk result (λ fault. IfSome (R.remaining reader.old) (λ octets. SaysFile
+        (styled style.coloured style.task) (S.says dictionary.now style.task) speaker.old octets fault speaker.new
+        (W.contents writer.old) (W.contents writer.new))) }
+    ensures stopped { IfErr result (λ fault. StopsFile (styled style.coloured style.task)
+        (S.says dictionary.now style.task) speaker.old fault (R.remaining reader.old) (R.remaining reader.new)
+        (W.contents writer.old) (W.contents writer.new)) }
+{
+    pieces_join();
+    gathered_texts();
+    for _ in 0..u64::MAX {
+        let fault = write_held_packets(alloc, dictionary, style, speaker, capture, output, writer)?;
+        if fault.is_some() {
+            return Ok(fault);
+        }
+        let ended = feed_piece(capture, reader)?;
+        if ended {
+            return Ok(fault_at_end(capture));
+        }
+    }
+    Err(RunFault::Read(Error::from(ErrorKind::TimedOut)))
+}
