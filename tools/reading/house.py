@@ -349,6 +349,31 @@ def tools_left_out(top):
     return [it for it in found if it != "README.md" and f"`{it}`" not in text]
 
 
+def code_of(text):
+    """Returns the lines of a text of code, but for comments and blanks."""
+    lines = (re.sub(r"(?:^|\s)//.*", "", line).strip() for line in text.split("\n"))
+    return [it for it in lines if it]
+
+
+def snippets(text):
+    """Returns the snippets of a page that are of a source: its path, which the paragraph before names last, and its lines."""
+    found = []
+    for before, snippet in re.findall(r"((?:[^\n]+\n)+)\n?```rust\n(.*?)^```$", text, re.M | re.S):
+        paths = re.findall(r"crates/\w+/src/[\w/]+\.rt", before)
+        found += [(paths[-1], code_of(snippet))] if paths else []
+    return found
+
+
+def snippets_unlike_sources(top):
+    """Lines of snippets that their source hasn't, in this order; comments and blanks are left out."""
+    found = []
+    for page in pages(top):
+        for path, lines in snippets(read(f"{top}/{page}")):
+            has = iter(code_of(read(f"{top}/{path}")) if os.path.isfile(f"{top}/{path}") else [])
+            found += [f"{page}: {path} hasn't: {line}" for line in lines if line not in has]
+    return found
+
+
 def edits(top):
     """Returns the edits that must be refused, of both folders of the crates."""
     folders = [f"crates/{it}/{kind}" for it in crates(top) for kind in ("must-fail", "planted")]
@@ -380,4 +405,5 @@ COUNTS = {
     "tools-that-their-page-leaves-out": tools_left_out,
     "must-fail-edits-that-no-page-names": must_fail_unnamed,
     "imports-that-nothing-uses": unused_imports,
+    "lines-of-snippets-unlike-their-sources": snippets_unlike_sources,
 }
