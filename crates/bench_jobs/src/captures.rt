@@ -6,7 +6,7 @@ use crate::draft::put;
 use crate::messages::Sample;
 use anyhow::Result;
 use dm_dict::Dictionary;
-use dm_view_lines::{LinesFault, Task, write_lines, write_stream};
+use dm_view_lines::{LinesFault, Task, write_lines_report, write_stream_report};
 use std::alloc::Global;
 
 /// How many messages an input has.
@@ -154,7 +154,7 @@ fn view(given: &Given<'_>, round: u32, room: &mut Room) -> Result<bool> {
     };
     let input = room.input.as_slice();
     let said: Result<bool, LinesFault> = if round % 5 == 4 {
-        write_stream(
+        write_stream_report(
             given.alloc,
             given.dictionary,
             task,
@@ -163,7 +163,7 @@ fn view(given: &Given<'_>, round: u32, room: &mut Room) -> Result<bool> {
             &mut room.output,
         )
     } else {
-        write_lines(
+        write_lines_report(
             given.alloc,
             given.dictionary,
             task,

@@ -7,7 +7,7 @@ use crate::messages::{SESSION, Samples, letters_of};
 use anyhow::Result;
 use dm_dict::Dictionary;
 use dm_tool::{ToolFault, run_build, run_check, run_show};
-use dm_view_lines::{LinesFault, Task, write_lines, write_stream};
+use dm_view_lines::{LinesFault, Task, write_lines_report, write_stream_report};
 use std::alloc::{AllocError, Global};
 use std::mem;
 
@@ -177,7 +177,7 @@ fn view_lines(given: &Given<'_>, chance: &mut Chance, task: Task, room: &mut Roo
     room.input.clear();
     room.output.clear();
     put_messages(given, chance, OFTEN, b"\n", room)?;
-    let said: Result<bool, LinesFault> = write_lines(
+    let said: Result<bool, LinesFault> = write_lines_report(
         given.alloc,
         given.dictionary,
         task,
@@ -193,7 +193,7 @@ fn view_stream(given: &Given<'_>, chance: &mut Chance, room: &mut Room) -> Resul
     room.output.clear();
     put_messages(given, chance, SELDOM, b"", room)?;
     cut_input(room)?;
-    let said: Result<bool, LinesFault> = write_stream(
+    let said: Result<bool, LinesFault> = write_stream_report(
         given.alloc,
         given.dictionary,
         Task::Show,

@@ -22,7 +22,7 @@ const ABORT: u8 = 6;
 const SHUTDOWN_COMPLETE: u8 = 14;
 
 /// The Chunk Length of the whole chunk at the front; `None` where none is there.
-fn front_chunk_len(chunks: &[u8]) -> Option<u16>
+fn whole_chunk_len(chunks: &[u8]) -> Option<u16>
     ensures whole { IfSome result (λ size. IsWholeChunk chunks.now × (size ≡ chunk_length chunks.now)) }
     ensures none { IfNone result (IsWholeChunk chunks.now → ⊥) }
 {
@@ -43,7 +43,8 @@ pub struct Init {
     pub is_ack: bool,
     /// The Verification Tag of the packets that its receiver will send.
     pub initiate_tag: u32,
-    /// The TSN of the first DATA chunk of its sender, for [`SctpFlow::begin`](crate::SctpFlow::begin).
+    /// The TSN of the first DATA chunk of its sender, for
+    /// [`SctpFlow::begin_association`](crate::SctpFlow::begin_association).
     pub initial_tsn: u32,
 }
 
@@ -59,11 +60,11 @@ pub struct Init {
 /// |  Number of Outbound Streams   |   Number of Inbound Streams   |
 /// |                          Initial TSN                          |
 /// ```
-pub fn init_of(chunks: &[u8]) -> Option<Init>
+pub fn read_init_or_ack(chunks: &[u8]) -> Option<Init>
     ensures some { IfSome result (λ init. SaysInit chunks.now init) }
     ensures none { IfNone result ((init : Init) → SaysInit chunks.now init → ⊥) }
 {
-    let Some(size) = front_chunk_len(chunks) else {
+    let Some(size) = whole_chunk_len(chunks) else {
         return None;
     };
     if size < INIT_LEN || (chunks[0] != INIT && chunks[0] != INIT_ACK) {
@@ -81,7 +82,7 @@ pub fn init_of(chunks: &[u8]) -> Option<Init>
 pub fn ends_association(chunks: &[u8]) -> bool
     ensures { IsTrue result ↔ EndsAssociation chunks.now }
 {
-    match front_chunk_len(chunks) {
+    match whole_chunk_len(chunks) {
         Some(_size) => chunks[0] == ABORT || chunks[0] == SHUTDOWN_COMPLETE,
         None => false,
     }

@@ -4,14 +4,14 @@ ghost use Rattle.dm_association.specs.Laws.{OneUserMessage};
 ghost use Rattle.dm_association.specs.Reassembly.{EachUserMessageIsHandedOut, OrderOfChunksChangesNothing};
 
 /// A chunk is in one user message at most, whatever came beside it.
-pub fn one_user_message()
+pub fn no_chunk_is_in_two_messages()
     ensures { OneUserMessage }
 {}
 
-/// Each octet of user data of a direction is in a message that was handed out, waits for others of its message, came
-/// before, was counted as passed over, or is of Diameter over DTLS and counted so: in whatever order chunks come and
-/// associations begin and end.
-pub fn each_octet_is_somewhere()
+/// As many octets of user data as came in a direction are in messages that were handed out, wait for others of their
+/// message, came before, were passed over, or are of Diameter over DTLS (both counted up to 2^64 - 1): in whatever
+/// order chunks come and associations begin and end.
+pub fn octets_of_chunks_add_up()
     ensures { EachChunkIsAccounted }
 {}
 
@@ -24,6 +24,6 @@ pub fn each_user_message_is_handed_out()
 
 /// The same chunks give the same messages, each as often, in whatever order they come and however often, where those
 /// with one TSN are the same chunk.
-pub fn order_changes_nothing()
+pub fn chunk_order_changes_only_message_order()
     ensures { OrderOfChunksChangesNothing }
 {}

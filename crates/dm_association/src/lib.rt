@@ -12,5 +12,5 @@ mod tsn_state;
 mod tsn_window;
 mod tsns;
 
-pub use front_chunk::{Init, ends_association, init_of};
+pub use front_chunk::{Init, ends_association, read_init_or_ack};
 pub use sctp_flow::SctpFlow;

@@ -6,7 +6,7 @@ ghost use Rattle.dm_association.specs.TsnWindows.{marks_with, CompletesNone};
 
 use crate::marks::ChunkMarks;
 use crate::tsn_state::TsnState;
-use crate::tsns::marks_at;
+use crate::tsns::fragment_marks_at;
 use std::collections::VecDeque;
 
 /// A user message: so many chunks from the first on.
@@ -33,7 +33,7 @@ fn is_whole(run: ChunkRun) -> bool
 }
 
 /// The run with the fragment before it, where its own first isn't the beginning; `None` where none there goes with it.
-fn widened_left(
+fn run_with_fragment_before(
     tsns: &VecDeque<TsnState>,
     at: usize,
     own: ChunkMarks,
@@ -52,7 +52,7 @@ fn widened_left(
         return None;
     }
     let first = run.first - 1;
-    match marks_at(tsns, first) {
+    match fragment_marks_at(tsns, first) {
         Some(marks) if !marks.ending && marks.stream == own.stream => Some(ChunkRun {
             first,
             last: run.last,
@@ -64,7 +64,7 @@ fn widened_left(
 }
 
 /// The run with the fragment behind it, where its own last isn't the end; `None` where none there goes with it.
-fn widened_right(
+fn run_with_fragment_behind(
     tsns: &VecDeque<TsnState>,
     at: usize,
     own: ChunkMarks,
@@ -82,7 +82,7 @@ fn widened_right(
         return Some(run);
     }
     let last = run.last + 1;
-    match marks_at(tsns, last) {
+    match fragment_marks_at(tsns, last) {
         Some(marks) if !marks.beginning && marks.stream == own.stream => Some(ChunkRun {
             first: run.first,
             last,
@@ -94,7 +94,12 @@ fn widened_right(
 }
 
 /// The run with the fragments before and behind it that are wanted; `None` where one is missing or goes with another.
-fn widened(tsns: &VecDeque<TsnState>, at: usize, own: ChunkMarks, run: ChunkRun) -> Option<ChunkRun>
+fn run_with_neighbours(
+    tsns: &VecDeque<TsnState>,
+    at: usize,
+    own: ChunkMarks,
+    run: ChunkRun,
+) -> Option<ChunkRun>
     requires around { IsRunAround tsns.now.items at own run }
     requires near { at < 65536 }
     requires span { length tsns.now.items ≤ 65536 }
@@ -103,15 +108,15 @@ fn widened(tsns: &VecDeque<TsnState>, at: usize, own: ChunkMarks, run: ChunkRun)
         → wider.first + run.last < run.first + wider.last) }
     ensures none { IfNone result (CompletesNone tsns.now.items at own) }
 {
-    match widened_left(tsns, at, own, run) {
-        Some(wider) => widened_right(tsns, at, own, wider),
+    match run_with_fragment_before(tsns, at, own, run) {
+        Some(wider) => run_with_fragment_behind(tsns, at, own, wider),
         None => None,
     }
 }
 
 /// The user message that a chunk with these marks completes, where it belongs at this place; `None` where it completes
 /// none. Fragments before it and behind it are looked at by turns, so that a side with a gap ends the search.
-pub(crate) fn message_around(
+pub(crate) fn completed_message_extent(
     tsns: &VecDeque<TsnState>,
     at: usize,
     own: ChunkMarks,
@@ -131,7 +136,7 @@ pub(crate) fn message_around(
         ended: own.ending,
     };
     'turns: while !is_whole(run) {
-        match widened(tsns, at, own, run) {
+        match run_with_neighbours(tsns, at, own, run) {
             Some(wider) => run = wider,
             None => return None,
         }

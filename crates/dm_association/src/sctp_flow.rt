@@ -1,5 +1,5 @@
 //! One direction of an association: Diameter messages out of its DATA chunks.
-ghost use Rattle.std.specs.Prelude.{◌≡◌, ◌≤◌, ◌⊎◌, true, None, Some, length, IfOk, IfSome, IfNone, OnErr};
+ghost use Rattle.std.specs.Prelude.{◌≡◌, ◌≤◌, true, None, Some, length, IfOk, IfSome, IfNone, OnErr};
 ghost use Rattle.dm_flows.specs.Flows.{more_passed};
 ghost use Rattle.dm_flows.specs.Sctps.{data_seen};
 ghost use Rattle.dm_association.specs.Fragments.{chunk_marks};
@@ -51,7 +51,7 @@ impl Model for SctpFlow {
 }
 
 /// The octets that were counted and so many more, 2^64 - 1 at most.
-fn octet_sum(passed: u64, octets: usize) -> u64
+fn capped_octet_sum(passed: u64, octets: usize) -> u64
     ensures { result ≡ more_passed passed octets }
 {
     passed.saturating_add(octets as u64)
@@ -65,7 +65,7 @@ fn may_be_diameter(protocol: u32) -> bool
 }
 
 /// The B and E bits of a DATA chunk, and its stream.
-fn marks_of(chunk: DataChunk<'_>) -> ChunkMarks
+fn marks_of_chunk(chunk: DataChunk<'_>) -> ChunkMarks
     ensures { result ≡ chunk_marks (data_seen chunk.entry) }
 {
     ChunkMarks {
@@ -84,12 +84,12 @@ fn may_begin_association(chunk: DataChunk<'_>) -> bool
 }
 
 /// How many octets wait for others of their messages; none where no TSN is known.
-fn waiting_in(window: &Option<TsnWindow>) -> usize
+fn octets_waiting_in(window: &Option<TsnWindow>) -> usize
     ensures waiting { result ≡ waiting_in_flow window.now }
     ensures most { result ≤ 1048576 }
 {
     match window {
-        Some(window) => window.waiting(),
+        Some(window) => window.octets_waiting(),
         None => 0,
     }
 }
@@ -109,7 +109,7 @@ impl SctpFlow {
 
     /// How many octets were passed over, up to 2^64 - 1: those of other protocols, and those of messages that weren't
     /// whole when an association was left. It never answers want of memory.
-    pub fn passed(&self) -> u64
+    pub fn octets_passed_over(&self) -> u64
         ensures { result ≡ self.now.passed }
     {
         self.passed
@@ -117,27 +117,27 @@ impl SctpFlow {
 
     /// How many octets of Diameter over DTLS came, up to 2^64 - 1 (RFC 6733, 11.5: 47). They aren't read. It never
     /// answers want of memory.
-    pub fn secured(&self) -> u64
+    pub fn octets_secured(&self) -> u64
         ensures { result ≡ self.now.secured }
     {
         self.secured
     }
 
     /// How many octets wait for others of their messages. It never answers want of memory.
-    pub fn waiting(&self) -> usize
+    pub fn octets_waiting(&self) -> usize
         ensures waiting { result ≡ waiting_in_flow self.now.window }
         ensures most { result ≤ 1048576 }
     {
-        waiting_in(&self.window)
+        octets_waiting_in(&self.window)
     }
 
     /// The association ended, or another one takes its place. It never answers want of memory.
     ///
     /// What waits is passed over.
-    pub fn end(&mut self)
+    pub fn end_association(&mut self)
         ensures { self.new ≡ association_left self.old }
     {
-        self.passed = octet_sum(self.passed, waiting_in(&self.window));
+        self.passed = capped_octet_sum(self.passed, octets_waiting_in(&self.window));
         self.window = None;
     }
 
@@ -145,32 +145,32 @@ impl SctpFlow {
     /// answers want of memory.
     ///
     /// What waits is passed over.
-    pub fn begin(&mut self, initial_tsn: u32)
+    pub fn begin_association(&mut self, initial_tsn: u32)
         ensures { self.new ≡ begun_at_tsn self.old initial_tsn }
     {
-        self.end();
+        self.end_association();
         self.window = Some(TsnWindow::new(self.alloc, initial_tsn));
     }
 
     /// Takes a DATA chunk. It answers the user message that is whole with it, or None.
     ///
     /// Where memory is wanted nothing changed, or an association begins with the chunk, which wasn't taken.
-    pub fn take(&mut self, chunk: DataChunk<'_>) -> Result<Option<Vec<u8>>, AllocError>
+    pub fn take_chunk(&mut self, chunk: DataChunk<'_>) -> Result<Option<Vec<u8>>, AllocError>
         ensures message { IfOk result (λ found. IfSome found
             (λ message. TakesChunk self.old (data_seen chunk.entry) (Some message.items) self.new)) }
         ensures none { IfOk result (λ found. IfNone found
             (TakesChunk self.old (data_seen chunk.entry) None self.new)) }
         ensures left { OnErr result (LeavesChunk self.old (data_seen chunk.entry) self.new) }
     {
-        match self.place_of(chunk) {
-            ChunkPlace::Wanted(at) => self.take_wanted(at, chunk),
+        match self.place_of_chunk(chunk) {
+            ChunkPlace::Wanted(at) => self.take_or_count_chunk_at(at, chunk),
             ChunkPlace::Repeated => Ok(None),
             ChunkPlace::Astray => self.begin_association_or_pass(chunk),
         }
     }
 
     /// Where a chunk belongs by its TSN; `Astray` too where it isn't known with which TSN the association begins.
-    fn place_of(&self, chunk: DataChunk<'_>) -> ChunkPlace
+    fn place_of_chunk(&self, chunk: DataChunk<'_>) -> ChunkPlace
         ensures { result ≡ place_in_flow self.now.window (data_seen chunk.entry) }
     {
         match &self.window {
@@ -184,15 +184,15 @@ impl SctpFlow {
         ensures { self.new ≡ without_chunk (data_seen chunk.entry) self.old }
     {
         if chunk.payload_protocol == DIAMETER_OVER_DTLS {
-            self.secured = octet_sum(self.secured, chunk.user_data.len());
+            self.secured = capped_octet_sum(self.secured, chunk.user_data.len());
         } else {
-            self.passed = octet_sum(self.passed, chunk.user_data.len());
+            self.passed = capped_octet_sum(self.passed, chunk.user_data.len());
         }
     }
 
     /// Takes a chunk at its place, or counts it as unread where it isn't of Diameter. It answers the user message that
     /// is whole with it, or None.
-    fn take_wanted(
+    fn take_or_count_chunk_at(
         &mut self,
         at: usize,
         chunk: DataChunk<'_>,
@@ -208,7 +208,7 @@ impl SctpFlow {
             unreachable!()
         };
         if may_be_diameter(chunk.payload_protocol) {
-            return window.take_chunk_at(self.alloc, at, marks_of(chunk), chunk.user_data);
+            return window.take_chunk_at(self.alloc, at, marks_of_chunk(chunk), chunk.user_data);
         }
         window.finish_tsn(at)?;
         self.count_unread_chunk(chunk);
@@ -229,11 +229,11 @@ impl SctpFlow {
             × (self.new ≡ begun_at_tsn self.old (data_seen chunk.entry).tsn)) }
     {
         if !may_begin_association(chunk) {
-            self.end();
+            self.end_association();
             self.count_unread_chunk(chunk);
             return Ok(None);
         }
-        self.begin(chunk.tsn);
-        self.take_wanted(0, chunk)
+        self.begin_association(chunk.tsn);
+        self.take_or_count_chunk_at(0, chunk)
     }
 }

@@ -1,5 +1,5 @@
 //! The TSNs of one direction of an association (RFC 9260, 3.3.1, 6.2 and 6.9).
-ghost use Rattle.std.specs.Prelude.{◌≡◌, ◌<◌, ◌≤◌, ◌+◌, true, length, IfOk, IfSome, IfNone, OnOk, OnErr};
+ghost use Rattle.std.specs.Prelude.{◌≡◌, ◌<◌, ◌≤◌, ◌+◌, length, IfOk, IfSome, IfNone, OnOk, OnErr};
 ghost use Rattle.dm_association.specs.TsnWindows.{begun_window, waiting_octets, reach, place_within, place_before};
 ghost use Rattle.dm_association.specs.TsnWindows.{chunk_place, HasRoomAt, FinishesTsns, PutsFragment};
 ghost use Rattle.dm_association.specs.TsnWindows.{CompletesMessage, HoldsFragment};
@@ -7,10 +7,10 @@ ghost use Rattle.dm_association.specs.TsnWindows.{CompletesMessage, HoldsFragmen
 use crate::chunk_place::ChunkPlace;
 use crate::fragment::Fragment;
 use crate::marks::ChunkMarks;
-use crate::message_around::{MessageExtent, message_around};
+use crate::message_around::{MessageExtent, completed_message_extent};
 use crate::tsn_state::TsnState;
 use crate::tsns::{
-    completed_message, drop_done_tsns, grow_tsns, is_missing_at, mark_extent_done, set_fragment,
+    completed_message, drop_done_tsns, grow_tsns, is_tsn_missing_at, mark_extent_done, set_fragment,
 };
 use std::alloc::{AllocError, Global};
 use std::collections::VecDeque;
@@ -58,7 +58,7 @@ impl TsnWindow {
     }
 
     /// How many octets wait.
-    pub(crate) fn waiting(&self) -> usize
+    pub(crate) fn octets_waiting(&self) -> usize
         ensures waiting { result ≡ waiting_octets self.now.tsns }
         ensures most { result ≤ 1048576 }
     {
@@ -69,7 +69,7 @@ impl TsnWindow {
     fn place_in_window(&self, at: usize, size: usize) -> ChunkPlace
         ensures { result ≡ place_within self.now at size }
     {
-        if !is_missing_at(&self.tsns, at) {
+        if !is_tsn_missing_at(&self.tsns, at) {
             return ChunkPlace::Repeated;
         }
         if MOST_WAITING < size || MOST_WAITING - size < self.waiting {
@@ -171,7 +171,7 @@ impl TsnWindow {
             (HoldsFragment self.old at (record { marks = own; octets = octets.now }) self.new)) }
         ensures err { OnErr result (self.new ≡ self.old) }
     {
-        match message_around(&self.tsns, at, own) {
+        match completed_message_extent(&self.tsns, at, own) {
             Some(extent) => {
                 let message = completed_message(alloc, &self.tsns, at, octets, extent)?;
                 self.finish_extent(extent)?;

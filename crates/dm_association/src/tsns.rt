@@ -13,7 +13,7 @@ use std::collections::VecDeque;
 use std::mem;
 
 /// The B and E bits and the stream of the fragment that waits at a place; None where none waits there.
-pub(crate) fn marks_at(tsns: &VecDeque<TsnState>, at: usize) -> Option<ChunkMarks>
+pub(crate) fn fragment_marks_at(tsns: &VecDeque<TsnState>, at: usize) -> Option<ChunkMarks>
     ensures { result ≡ held_marks (tsn_at tsns.now.items at) }
 {
     match tsns.get(at) {
@@ -23,7 +23,7 @@ pub(crate) fn marks_at(tsns: &VecDeque<TsnState>, at: usize) -> Option<ChunkMark
 }
 
 /// Whether no chunk came at a place.
-pub(crate) fn is_missing_at(tsns: &VecDeque<TsnState>, at: usize) -> bool
+pub(crate) fn is_tsn_missing_at(tsns: &VecDeque<TsnState>, at: usize) -> bool
     ensures { result ≡ is_missing (tsn_at tsns.now.items at) }
 {
     match tsns.get(at) {
@@ -34,7 +34,7 @@ pub(crate) fn is_missing_at(tsns: &VecDeque<TsnState>, at: usize) -> bool
 }
 
 /// The octets of the fragment that waits at a place; none where none waits there.
-fn octets_at(tsns: &VecDeque<TsnState>, at: usize) -> &[u8]
+fn fragment_octets_at(tsns: &VecDeque<TsnState>, at: usize) -> &[u8]
     ensures { result.now ≡ slot_octets (tsn_at tsns.now.items at) }
 {
     match tsns.get(at) {
@@ -57,7 +57,7 @@ fn push_chunk_octets(
     if index == place {
         message.extend_from_slice(octets)
     } else {
-        message.extend_from_slice(octets_at(tsns, index))
+        message.extend_from_slice(fragment_octets_at(tsns, index))
     }
 }
 
@@ -103,12 +103,12 @@ pub(crate) fn set_fragment(tsns: &mut VecDeque<TsnState>, at: usize, fragment: F
 }
 
 /// Marks the TSN at a place as done, and answers how many octets waited there.
-fn mark_done(tsns: &mut VecDeque<TsnState>, at: usize) -> usize
+fn mark_tsn_done(tsns: &mut VecDeque<TsnState>, at: usize) -> usize
     requires { at < length tsns.old.items }
     ensures done { tsns.new.items ≡ slice_set tsns.old.items at TsnState.Done }
     ensures freed { result ≡ length (slot_octets (tsn_at tsns.old.items at)) }
 {
-    let freed = octets_at(tsns, at).len();
+    let freed = fragment_octets_at(tsns, at).len();
     drop(mem::replace(&mut tsns[at], TsnState::Done));
     freed
 }
@@ -122,7 +122,7 @@ pub(crate) fn mark_extent_done(tsns: &mut VecDeque<TsnState>, extent: MessageExt
 {
     let mut freed = 0;
     'chunks: for index in 0..extent.count {
-        freed += mark_done(tsns, extent.first + index);
+        freed += mark_tsn_done(tsns, extent.first + index);
     }
     freed
 }

@@ -5,7 +5,7 @@ ghost use Rattle.dm_associations.specs.Associations.{TakesPacket, LeavesAssociat
 ghost use Rattle.dm_associations.specs.Ways.{HandsReady, HandsNoneReady};
 ghost use Rattle.dm_flows.specs.Sctps.{sctp_seen};
 
-use crate::packet_effects::take_packet;
+use crate::packet_effects::take_packet_in_direction;
 use crate::way::SctpWay;
 use dm_flows::{Endpoint, SctpPacket};
 use std::alloc::{AllocError, Global};
@@ -53,27 +53,33 @@ impl Association {
         }
     }
 
-    /// How many octets were passed over in both directions, as [`dm_association::SctpFlow::passed`] counts them, up to
-    /// 2^64 - 1. It never answers want of memory.
-    pub fn passed(&self) -> u64
+    /// How many octets were passed over in both directions, as [`dm_association::SctpFlow::octets_passed_over`] counts
+    /// them, up to 2^64 - 1. It never answers want of memory.
+    pub fn octets_passed_over_both_ways(&self) -> u64
         ensures { result ≡ passed_by self.now }
     {
-        self.forth.passed().saturating_add(self.back.passed())
+        self.forth
+            .octets_passed_over()
+            .saturating_add(self.back.octets_passed_over())
     }
 
     /// How many octets of Diameter over DTLS came in both directions, up to 2^64 - 1. It never answers want of memory.
-    pub fn secured(&self) -> u64
+    pub fn octets_secured_both_ways(&self) -> u64
         ensures { result ≡ secured_by self.now }
     {
-        self.forth.secured().saturating_add(self.back.secured())
+        self.forth
+            .octets_secured()
+            .saturating_add(self.back.octets_secured())
     }
 
     /// How many octets are held in both directions, up to 2^64 - 1: those that wait for others of their messages, and
     /// those of messages that weren't handed out. It takes one step, and never answers want of memory.
-    pub fn held(&self) -> u64
+    pub fn octets_held_both_ways(&self) -> u64
         ensures { result ≡ held_by self.now }
     {
-        self.forth.held().saturating_add(self.back.held())
+        self.forth
+            .octets_held()
+            .saturating_add(self.back.octets_held())
     }
 
     /// Takes a packet that came from the first end, or else from the second one.
@@ -82,34 +88,34 @@ impl Association {
     /// or a SHUTDOWN COMPLETE. An INIT begins a new association, unless it is the same INIT again: both directions
     /// begin anew, and what waits is passed over; messages that are whole are handed out still. Where memory is wanted
     /// the DATA chunks up to some were taken.
-    pub fn take(&mut self, packet: SctpPacket<'_>) -> Result<(), AllocError>
+    pub fn take_packet(&mut self, packet: SctpPacket<'_>) -> Result<(), AllocError>
         ensures taken { OnOk result (TakesPacket self.old (sctp_seen packet.entry) self.new) }
         ensures left { OnErr result (LeavesAssociation self.old (sctp_seen packet.entry) self.new) }
     {
         if packet.source == self.first {
-            take_packet(&mut self.forth, &mut self.back, &mut self.ended, packet)
+            take_packet_in_direction(&mut self.forth, &mut self.back, &mut self.ended, packet)
         } else {
-            take_packet(&mut self.back, &mut self.forth, &mut self.ended, packet)
+            take_packet_in_direction(&mut self.back, &mut self.forth, &mut self.ended, packet)
         }
     }
 
     /// Hands out the next whole message from the first end to the second; None where none is whole. It never answers
     /// want of memory.
-    pub fn next_forth(&mut self) -> Option<Vec<u8>>
+    pub fn next_message_from_first(&mut self) -> Option<Vec<u8>>
         ensures message { IfSome result (λ message. HandsReady self.old.forth message.items self.new.forth) }
         ensures none { IfNone result (HandsNoneReady self.old.forth self.new.forth) }
         ensures others { self.new ≡ record self.old { forth = self.new.forth } }
     {
-        self.forth.next()
+        self.forth.next_message()
     }
 
     /// Hands out the next whole message from the second end to the first; None where none is whole. It never answers
     /// want of memory.
-    pub fn next_back(&mut self) -> Option<Vec<u8>>
+    pub fn next_message_from_second(&mut self) -> Option<Vec<u8>>
         ensures message { IfSome result (λ message. HandsReady self.old.back message.items self.new.back) }
         ensures none { IfNone result (HandsNoneReady self.old.back self.new.back) }
         ensures others { self.new ≡ record self.old { back = self.new.back } }
     {
-        self.back.next()
+        self.back.next_message()
     }
 }

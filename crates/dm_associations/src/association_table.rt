@@ -2,7 +2,7 @@
 ghost use Rattle.std.proofs.Common.{rules};
 
 use crate::association::Association;
-use crate::exchange::any_chunk_begins_exchange;
+use crate::exchange::any_chunk_begins_exchange_request;
 use crate::way::SctpWay;
 use dm_connections::{Connections, Ends, Takes, TwoWay};
 use dm_flows::SctpPacket;
@@ -40,31 +40,31 @@ impl TwoWay for Association {
 
     ghost new_holds_none = { Prim.search rules };
 
-    fn open(alloc: Global, ends: Ends, _max: u32) -> Association {
+    fn new_between(alloc: Global, ends: Ends, _max: u32) -> Association {
         Association::new(alloc, ends.first, ends.second)
     }
 
-    fn octets_passed(&self) -> u64 {
-        self.passed()
+    fn octets_passed_over(&self) -> u64 {
+        self.octets_passed_over_both_ways()
     }
 
     fn octets_secured(&self) -> u64 {
-        self.secured()
+        self.octets_secured_both_ways()
     }
 
     fn octets_held(&self) -> u64 {
-        self.held()
+        self.octets_held_both_ways()
     }
 
     fn octets_pending(&self) -> u64 {
-        self.held()
+        self.octets_held_both_ways()
     }
 
     fn next_message(&mut self, from_first: bool) -> Result<Option<Vec<u8>>, AllocError> {
         if from_first {
-            Ok(self.next_forth())
+            Ok(self.next_message_from_first())
         } else {
-            Ok(self.next_back())
+            Ok(self.next_message_from_second())
         }
     }
 }
@@ -89,11 +89,11 @@ impl<'a> Takes<SctpPacket<'a>> for Association {
         }
     }
 
-    fn begins_exchange(sent: SctpPacket<'a>) -> bool {
-        any_chunk_begins_exchange(sent.chunks)
+    fn begins_exchange_request(sent: SctpPacket<'a>) -> bool {
+        any_chunk_begins_exchange_request(sent.chunks)
     }
 
     fn take_sent(&mut self, sent: SctpPacket<'a>) -> Result<(), AllocError> {
-        self.take(sent)
+        self.take_packet(sent)
     }
 }

@@ -1,7 +1,7 @@
 //! What a packet is to its association by the chunk at its front.
 ghost use Rattle.dm_associations.specs.Fronts.{HasFront};
 
-use dm_association::{Init, ends_association, init_of};
+use dm_association::{Init, ends_association, read_init_or_ack};
 
 /// What a packet is to its association.
 #[derive(Clone, Copy)]
@@ -23,10 +23,10 @@ pub(crate) enum Front {
 ///  0 1 2 3 4 5 6 7 8 9 0 1 2 3 4 5 6 7 8 9 0 1 2 3 4 5 6 7 8 9 0 1
 /// | Type = 6, 14  |  Reserved   |T|         Chunk Length          |
 /// ```
-pub(crate) fn read_front(chunks: &[u8]) -> Front
+pub(crate) fn read_front_chunk(chunks: &[u8]) -> Front
     ensures { HasFront chunks.now result }
 {
-    match init_of(chunks) {
+    match read_init_or_ack(chunks) {
         Some(init) if init.is_ack => Front::Answers(init),
         Some(init) => Front::Begins(init),
         None if ends_association(chunks) => Front::Ends(chunks[1] % 2 == 1),

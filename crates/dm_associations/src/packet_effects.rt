@@ -6,7 +6,7 @@ ghost use Rattle.dm_associations.specs.Associations.{after_init, after_answer, a
 ghost use Rattle.dm_associations.specs.Associations.{TakesCarried, LeavesCarried, HearsPacket, LeavesPacket};
 ghost use Rattle.dm_flows.specs.Sctps.{sctp_seen};
 
-use crate::front_chunk::{Front, read_front};
+use crate::front_chunk::{Front, read_front_chunk};
 use crate::way::SctpWay;
 use dm_association::Init;
 use dm_flows::SctpPacket;
@@ -40,7 +40,7 @@ fn apply_init(own: &mut SctpWay, other: &mut SctpWay, init: Init)
     ensures own { own.new ≡ record own.old { flow = begun_at_tsn own.old.flow init.initial_tsn } }
     ensures other { other.new ≡ record other.old { tag = Some init.initiate_tag } }
 {
-    own.begin(init.initial_tsn);
+    own.begin_association(init.initial_tsn);
     other.set_tag(Some(init.initiate_tag));
 }
 
@@ -54,7 +54,7 @@ fn take_init(own: &mut SctpWay, other: &mut SctpWay, ended: &mut bool, init: Ini
         return;
     }
     own.set_tag(None);
-    other.end();
+    other.end_association();
     apply_init(own, other, init);
     *ended = false;
 }
@@ -90,13 +90,17 @@ fn take_ending(own: &mut SctpWay, other: &mut SctpWay, ended: &mut bool, reflect
     if !is_of_association(tag_of_ending(own, other, reflected), *ended, tag) {
         return;
     }
-    own.end();
-    other.end();
+    own.end_association();
+    other.end_association();
     *ended = true;
 }
 
 /// Takes the DATA chunks of a packet, and its tag; one that isn't of the association changes nothing.
-fn take_data(own: &mut SctpWay, ended: bool, packet: SctpPacket<'_>) -> Result<(), AllocError>
+fn take_data_and_tag(
+    own: &mut SctpWay,
+    ended: bool,
+    packet: SctpPacket<'_>,
+) -> Result<(), AllocError>
     ensures taken { OnOk result (TakesCarried own.old ended (sctp_seen packet.entry) own.new) }
     ensures left { OnErr result (LeavesCarried own.old ended (sctp_seen packet.entry) own.new) }
 {
@@ -108,7 +112,7 @@ fn take_data(own: &mut SctpWay, ended: bool, packet: SctpPacket<'_>) -> Result<(
 }
 
 /// Takes a packet of the direction `own`, which may begin or end the association, or carry DATA chunks.
-pub(crate) fn take_packet(
+pub(crate) fn take_packet_in_direction(
     own: &mut SctpWay,
     other: &mut SctpWay,
     ended: &mut bool,
@@ -120,11 +124,11 @@ pub(crate) fn take_packet(
         (sctp_seen packet.entry) (record { own = own.new; other = other.new; ended = ended.new })) }
 {
     let tag = packet.verification_tag;
-    match read_front(packet.chunks) {
+    match read_front_chunk(packet.chunks) {
         Front::Begins(init) => take_init(own, other, ended, init, tag),
         Front::Answers(init) => take_init_ack(own, other, *ended, init, tag),
         Front::Ends(reflected) => take_ending(own, other, ended, reflected, tag),
-        Front::Carries => return take_data(own, *ended, packet),
+        Front::Carries => return take_data_and_tag(own, *ended, packet),
     }
     Ok(())
 }

@@ -1,5 +1,5 @@
 //! One direction of an association.
-ghost use Rattle.std.specs.Prelude.{◌≡◌, ◌-◌, ◌^◌, None, min, OnOk, OnErr, IfSome, IfNone};
+ghost use Rattle.std.specs.Prelude.{◌≡◌, ◌-◌, ◌^◌, min, OnOk, OnErr, IfSome, IfNone};
 ghost use Rattle.dm_association.specs.SctpFlows.{begun_at_tsn, association_left, LeavesChunk};
 ghost use Rattle.dm_associations.specs.Ways.{new_way, way_octets, WayTakesChunk, WayTakes, WayLeaves};
 ghost use Rattle.dm_associations.specs.Ways.{HandsReady, HandsNoneReady};
@@ -7,7 +7,7 @@ ghost use Rattle.dm_flows.specs.Sctps.{data_seen};
 
 use crate::message::WholeMessage;
 use dm_association::SctpFlow;
-use dm_flows::sctp_laws::one_list;
+use dm_flows::sctp_laws::data_chunks_make_one_list;
 use dm_flows::{DataChunk, DataChunks};
 use std::alloc::{AllocError, Global};
 use std::collections::VecDeque;
@@ -62,25 +62,25 @@ impl SctpWay {
     }
 
     /// How many octets were passed over, up to 2^64 - 1.
-    pub(crate) fn passed(&self) -> u64
+    pub(crate) fn octets_passed_over(&self) -> u64
         ensures { result ≡ self.now.flow.passed }
     {
-        self.flow.passed()
+        self.flow.octets_passed_over()
     }
 
     /// How many octets of Diameter over DTLS came, up to 2^64 - 1.
-    pub(crate) fn secured(&self) -> u64
+    pub(crate) fn octets_secured(&self) -> u64
         ensures { result ≡ self.now.flow.secured }
     {
-        self.flow.secured()
+        self.flow.octets_secured()
     }
 
     /// How many octets are held, up to 2^64 - 1: those that wait for others of their messages, and those of whole
     /// messages that weren't handed out.
-    pub(crate) fn held(&self) -> u64
+    pub(crate) fn octets_held(&self) -> u64
         ensures { result ≡ min (way_octets self.now) (2 ^ 64 - 1) }
     {
-        let all = self.octets + self.flow.waiting() as u128;
+        let all = self.octets + self.flow.octets_waiting() as u128;
         if all < u64::MAX as u128 {
             all as u64
         } else {
@@ -89,17 +89,17 @@ impl SctpWay {
     }
 
     /// Begins an association with this Initial TSN in this direction; what waits is passed over.
-    pub(crate) fn begin(&mut self, initial_tsn: u32)
+    pub(crate) fn begin_association(&mut self, initial_tsn: u32)
         ensures { self.new ≡ record self.old { flow = begun_at_tsn self.old.flow initial_tsn } }
     {
-        self.flow.begin(initial_tsn);
+        self.flow.begin_association(initial_tsn);
     }
 
     /// Ends the association in this direction; what waits is passed over.
-    pub(crate) fn end(&mut self)
+    pub(crate) fn end_association(&mut self)
         ensures { self.new ≡ record self.old { flow = association_left self.old.flow } }
     {
-        self.flow.end();
+        self.flow.end_association();
     }
 
     /// Takes a DATA chunk. Where memory is wanted it wasn't taken.
@@ -112,7 +112,7 @@ impl SctpWay {
             return Err(AllocError);
         }
         self.ready.reserve(1)?;
-        if let Some(message) = self.flow.take(chunk)? {
+        if let Some(message) = self.flow.take_chunk(chunk)? {
             self.octets += message.len() as u128;
             self.ready.push_back_reserved(WholeMessage::new(message));
         }
@@ -124,7 +124,7 @@ impl SctpWay {
         ensures taken { OnOk result (WayTakes self.old octets.now self.new) }
         ensures left { OnErr result (WayLeaves self.old octets.now self.new) }
     {
-        one_list();
+        data_chunks_make_one_list();
         'chunks: for chunk in DataChunks::new(octets) {
             self.take_chunk(chunk)?;
         }
@@ -132,7 +132,7 @@ impl SctpWay {
     }
 
     /// Hands out the next whole message; None where none is whole.
-    pub(crate) fn next(&mut self) -> Option<Vec<u8>>
+    pub(crate) fn next_message(&mut self) -> Option<Vec<u8>>
         ensures message { IfSome result (λ message. HandsReady self.old message.items self.new) }
         ensures none { IfNone result (HandsNoneReady self.old self.new) }
     {

@@ -1,4 +1,5 @@
-//! Applications that two sides have in common, and connections without security (RFC 6733, 2.4, 5.3 and 6.10).
+//! Applications that two sides have in common, by their sorted ids, and connections without security (RFC 6733, 2.4,
+//! 5.3 and 6.10).
 ghost use Rattle.std.specs.Prelude.{◌≡◌, ◌↔◌, ◌⊎◌, ◌≤◌, true, [], length, Contains};
 ghost use Rattle.std.specs.List.{list_any};
 ghost use Rattle.std.specs.List.Sorted.{IsNonDecreasing, IsPermutation};
@@ -79,7 +80,7 @@ pub(crate) fn is_relay(node: &Node) -> bool
 }
 
 /// Whether some of the ids is the node's, or a relay's. The node's ids are sorted once, on the stack.
-fn has_common_id(node: &Node, theirs: &[u32]) -> bool
+fn has_common_or_relay_id(node: &Node, theirs: &[u32]) -> bool
     ensures { result ≡ meets node.now theirs.now }
 {
     let (mut auth, mut acct, mut specific) = ([0; MAX_IDS], [0; MAX_IDS], [0; MAX_IDS]);
@@ -94,7 +95,7 @@ fn has_common_id(node: &Node, theirs: &[u32]) -> bool
 pub fn common(caps: &Caps, node: &Node) -> bool
     ensures { result ≡ is_common caps.now node.now }
 {
-    is_relay(node) || has_common_id(node, caps.applications.as_slice())
+    is_relay(node) || has_common_or_relay_id(node, caps.applications.as_slice())
 }
 
 /// Whether some Application-ID is on both nodes, or one is a relay (RFC 6733, 5.3). It never answers want of memory,
@@ -104,9 +105,9 @@ pub fn common_nodes(one: &Node, other: &Node) -> bool
 {
     is_relay(one)
         || is_relay(other)
-        || has_common_id(one, other.auth.as_slice())
-        || has_common_id(one, other.acct.as_slice())
-        || has_common_id(one, vendor_application_ids(other))
+        || has_common_or_relay_id(one, other.auth.as_slice())
+        || has_common_or_relay_id(one, other.acct.as_slice())
+        || has_common_or_relay_id(one, vendor_application_ids(other))
 }
 
 /// Whether the other side takes a connection without security: it names no Inband-Security-Id, or NO_INBAND_SECURITY

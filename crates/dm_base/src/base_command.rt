@@ -1,4 +1,7 @@
 //! The commands of the base messages (RFC 6733, 5.3 to 5.5).
+ghost use Rattle.std.specs.Prelude.{◌≡◌};
+ghost use Rattle.dm_base.specs.Commands.{is_base_command};
+
 use crate::codes::{CAPABILITIES_EXCHANGE, DEVICE_WATCHDOG, DISCONNECT_PEER};
 
 /// A command of the base messages, which is both a request's and an answer's (RFC 6733, 5.3 to 5.5).
@@ -13,7 +16,6 @@ pub enum BaseCommand {
 }
 
 impl BaseCommand {
-    ghost use Rattle.std.specs.Prelude.{◌≡◌};
     ghost use Rattle.dm_base.specs.Commands.{base_command};
 
     /// The base command of this Command Code. None for a code of no base message. It never answers want of memory.
@@ -30,4 +32,12 @@ impl BaseCommand {
             None
         }
     }
+}
+
+/// Whether the command is that of base messages: 257 (Capabilities-Exchange), 280 (Device-Watchdog) or 282
+/// (Disconnect-Peer) (RFC 6733, 5.3, 5.5 and 5.4). It never answers want of memory.
+pub fn is_base_command(command: u32) -> bool
+    ensures { result ≡ is_base_command command }
+{
+    BaseCommand::of(command).is_some()
 }

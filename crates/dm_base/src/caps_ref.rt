@@ -13,24 +13,36 @@ use crate::Node;
 use crate::applications::{is_own_or_relay_id, is_relay, sorted_ids, vendor_application_ids};
 use crate::codes::NO_INBAND_SECURITY;
 use crate::limits::MAX_IDS;
-use crate::received_avps::{is_vendor_specific_application_id, plain_application_id, security_id};
+use crate::received_avps::{
+    auth_or_acct_application_id, inband_security_id, is_vendor_specific_application_id,
+};
 use dm_wire::{AvpRef, AvpsRef, spells_avps};
 
 /// Whether the AVP is an Auth-Application-Id or Acct-Application-Id whose id is among the own ones, or is a relay's.
-fn plain_avp_tells_common_id(auth: &[u32], acct: &[u32], specific: &[u32], avp: AvpRef<'_>) -> bool
+fn auth_or_acct_avp_tells_common_id(
+    auth: &[u32],
+    acct: &[u32],
+    specific: &[u32],
+    avp: AvpRef<'_>,
+) -> bool
     requires auth { IsNonDecreasing auth.now }
     requires acct { IsNonDecreasing acct.now }
     requires specific { IsNonDecreasing specific.now }
     ensures { result ≡ list_any (is_own auth.now acct.now specific.now) (plain_ids (avp_of avp.entry)) }
 {
-    match plain_application_id(avp) {
+    match auth_or_acct_application_id(avp) {
         Some(id) => is_own_or_relay_id(auth, acct, specific, id),
         None => false,
     }
 }
 
 /// Whether an id that the AVPs of a Vendor-Specific-Application-Id tell is among the own ones, or is a relay's.
-fn members_tell_common_id(auth: &[u32], acct: &[u32], specific: &[u32], avps: AvpsRef<'_>) -> bool
+fn some_member_tells_common_id(
+    auth: &[u32],
+    acct: &[u32],
+    specific: &[u32],
+    avps: AvpsRef<'_>,
+) -> bool
     requires auth { IsNonDecreasing auth.now }
     requires acct { IsNonDecreasing acct.now }
     requires specific { IsNonDecreasing specific.now }
@@ -39,7 +51,7 @@ fn members_tell_common_id(auth: &[u32], acct: &[u32], specific: &[u32], avps: Av
 {
     let mut left = avps;
     while let Some((avp, rest)) = left.split_first() {
-        if plain_avp_tells_common_id(auth, acct, specific, avp) {
+        if auth_or_acct_avp_tells_common_id(auth, acct, specific, avp) {
             return true;
         }
         left = rest;
@@ -56,16 +68,16 @@ fn avp_tells_common_id(auth: &[u32], acct: &[u32], specific: &[u32], avp: AvpRef
     ensures { result ≡ list_any (is_own auth.now acct.now specific.now) (application_ids (avp_of avp.entry)) }
 {
     if !is_vendor_specific_application_id(avp) {
-        return plain_avp_tells_common_id(auth, acct, specific, avp);
+        return auth_or_acct_avp_tells_common_id(auth, acct, specific, avp);
     }
     if !spells_avps(avp.bytes) {
         return false;
     }
-    members_tell_common_id(auth, acct, specific, AvpsRef::Spelled(avp.bytes))
+    some_member_tells_common_id(auth, acct, specific, AvpsRef::Spelled(avp.bytes))
 }
 
 /// Whether an id of an application that the AVPs tell is among the own ones, or is a relay's.
-fn avps_tell_common_id(auth: &[u32], acct: &[u32], specific: &[u32], avps: AvpsRef<'_>) -> bool
+fn some_avp_tells_common_id(auth: &[u32], acct: &[u32], specific: &[u32], avps: AvpsRef<'_>) -> bool
     requires auth { IsNonDecreasing auth.now }
     requires acct { IsNonDecreasing acct.now }
     requires specific { IsNonDecreasing specific.now }
@@ -90,7 +102,7 @@ fn allows_unsecured_connection(avps: AvpsRef<'_>) -> bool
     let mut named = false;
     let mut left = avps;
     while let Some((avp, rest)) = left.split_first() {
-        if let Some(id) = security_id(avp) {
+        if let Some(id) = inband_security_id(avp) {
             if id == NO_INBAND_SECURITY {
                 return true;
             }
@@ -129,7 +141,7 @@ impl CapsRef<'_> {
         let auth = sorted_ids(&mut auth, node.auth.as_slice());
         let acct = sorted_ids(&mut acct, node.acct.as_slice());
         let specific = sorted_ids(&mut specific, vendor_application_ids(node));
-        avps_tell_common_id(auth, acct, specific, AvpsRef::Spelled(self.rest))
+        some_avp_tells_common_id(auth, acct, specific, AvpsRef::Spelled(self.rest))
     }
 
     /// Whether the other side takes a connection without security (RFC 6733, 6.10). It never answers want of memory.

@@ -1,4 +1,4 @@
-//! The order of hosts in an election (RFC 6733, 5.6.4).
+//! The order of hosts in an election, with upper and lower case taken as one (RFC 6733, 5.6.4).
 ghost use Rattle.std.specs.Prelude.{◌≡◌, ◌↔◌};
 ghost use Rattle.dm_base.specs.Before.{Before, lower, lower_octet, order_of_hosts};
 

@@ -1,15 +1,16 @@
 //! What a node says of itself beyond what it must.
 ghost use Rattle.std.specs.Prelude.{◌≡◌, ◌⊎◌, ◌↔◌, true, IfOk, IfErr, IsErrOf};
-ghost use Rattle.std.specs.List.{list_all};
-ghost use Rattle.dm_base.specs.Fit.{are_ids, is_vendor_application, are_vendor_applications, is_optional_number};
+ghost use Rattle.dm_base.specs.Fit.{are_ids, are_vendor_applications, is_optional_number};
 ghost use Rattle.dm_base.specs.Specific.{ids_of};
 ghost use Rattle.dm_base.specs.Refusals.{are_extras_long};
 ghost use Rattle.dm_base.specs.declared.extras_fault.ExtrasFault.{ExtrasFault};
 
 use crate::limits::MAX_IDS;
-use crate::node::ids_fit_32_bits;
+use crate::private_laws::{
+    all_application_numbers_fit_32_bits, ids_fit_32_bits, optional_number_fits_32_bits,
+};
+use crate::vendor_application::ids_of_applications;
 use crate::{ExtrasFault, IdList, VendorApplication, VendorApplicationList};
-use dm_dict::NoMemory;
 use std::alloc::{AllocError, Global};
 
 /// What a node says of itself beyond what it must (RFC 6733, 5.3, 6.11 and 8.16).
@@ -25,44 +26,6 @@ pub struct Extras {
     pub ghost fit_vendors: { are_ids vendors ≡ true },
     pub ghost fit_firmware: { is_optional_number firmware ≡ true },
     pub ghost fit_state_id: { is_optional_number state_id ≡ true },
-}
-
-/// The numbers of an application fit 32 bits, as their types say.
-#[tactic(auto, using(crate::proofs::Fitting::application_numbers))]
-fn numbers_fit_32_bits(application: &VendorApplication)
-    ensures { is_vendor_application application.now ≡ true }
-{
-    let _vendor = application.vendor;
-    let _application = application.application;
-}
-
-/// The numbers of all applications fit 32 bits, as their types say.
-fn all_numbers_fit_32_bits(applications: &[VendorApplication])
-    ensures { list_all is_vendor_application applications.now ≡ true }
-{
-    for application in applications {
-        numbers_fit_32_bits(application);
-    }
-}
-
-/// A number fits 32 bits, as its type says.
-#[tactic(auto, using(crate::proofs::Fitting::optional_number))]
-fn number_fits_32_bits(number: Option<u32>)
-    ensures { is_optional_number number ≡ true }
-{}
-
-/// The ids of applications of vendors, in order.
-fn ids_of_applications(
-    alloc: Global,
-    applications: &[VendorApplication],
-) -> Result<Vec<u32>, NoMemory>
-    ensures { IfOk result (λ ids. ids.items ≡ ids_of applications.now) }
-{
-    let mut ids = Vec::with_capacity(alloc, applications.len())?;
-    for application in applications {
-        ids.push(application.application)?;
-    }
-    Ok(ids)
 }
 
 impl Extras {
@@ -90,10 +53,10 @@ impl Extras {
             return Err(ExtrasFault::TooLong);
         }
         let ids = ids_of_applications(alloc, applications.as_slice())?;
-        all_numbers_fit_32_bits(applications.as_slice());
+        all_application_numbers_fit_32_bits(applications.as_slice());
         ids_fit_32_bits(vendors.as_slice());
-        number_fits_32_bits(firmware);
-        number_fits_32_bits(state_id);
+        optional_number_fits_32_bits(firmware);
+        optional_number_fits_32_bits(state_id);
         Ok(Extras {
             applications: VendorApplicationList::from_vec(applications),
             ids: IdList::from_vec(ids),

@@ -6,7 +6,7 @@ ghost use Rattle.dm_base.specs.Built.{request_header, answer_header};
 use dm_wire::Header;
 
 /// A header of these fields, with the T bit clear.
-fn header(
+fn header_with_t_bit_clear(
     request: bool,
     proxiable: bool,
     error: bool,
@@ -44,7 +44,7 @@ pub(crate) fn header_of_request(command: u32, id: u32) -> Header
     ensures header { result ≡ request_header command id }
     ensures fits { command < 256 ^ 3 → HeaderFits (request_header command id) }
 {
-    header(true, false, false, command, 0, id, id)
+    header_with_t_bit_clear(true, false, false, command, 0, id, id)
 }
 
 /// The header of the answer to a request: its command, application and identifiers, and its P bit.
@@ -52,7 +52,7 @@ pub(crate) fn header_of_answer(error: bool, to: &Header) -> Header
     ensures header { result ≡ answer_header error to.now }
     ensures fits { to.now.command < 256 ^ 3 → HeaderFits to.now }
 {
-    header(
+    header_with_t_bit_clear(
         false,
         to.proxiable,
         error,

@@ -7,17 +7,18 @@ ghost use Rattle.dm_base.specs.Told.{CerTellsNode, CeaTellsNode, DwrTellsState, 
 ghost use Rattle.dm_base.specs.Laws.{CerIsSpelled, CeaIsSpelled, DwrIsSpelled};
 ghost use Rattle.dm_base.specs.Laws.{DprIsSpelled, AnswerIsSpelled, ErrorIsSpelled};
 
-use dm_wire::laws::{avp_sized, message_spelled};
+use dm_wire::laws::{canonical_avps_have_padded_length, fitting_messages_are_spelled};
 
 /// Of two hosts that differ in lower case just one comes before the other, so just one side wins an election
 /// (RFC 6733, 5.6.4).
-pub fn one_comes_first()
+pub fn one_of_two_hosts_comes_first()
     ensures { OneComesFirst }
 {}
 
-/// The messages that a node builds are good under the base dictionary, and of their kind: the capabilities are
-/// the node's own, and the cause and the Result-Code those that were asked for (5.3 to 5.5).
-pub fn built_is_own()
+/// The messages that a node builds are good under the base dictionary, and of their kind: of a CER the capabilities are
+/// the node's own, of a DPR the cause and of a CEA the Result-Code are those that were asked for; of a DWA and a DPA no
+/// Result-Code is told (5.3 to 5.5).
+pub fn built_messages_are_good()
     ensures cer { CerIsOwn }
     ensures cea { CeaIsOwn }
     ensures dwr { DwrIsOwn }
@@ -28,9 +29,9 @@ pub fn built_is_own()
     ensures error { ErrorIsGood }
 {}
 
-/// Octets spell the messages that a node builds; an answer, where the numbers of the request's header fit their fields.
-/// So `encode` refuses them for want of memory alone (3).
-pub fn built_is_spelled()
+/// Octets spell the messages that a node builds; an answer, where the numbers of the request's header fit their fields
+/// (3).
+pub fn octets_spell_built_messages()
     ensures cer { CerIsSpelled }
     ensures cea { CeaIsSpelled }
     ensures dwr { DwrIsSpelled }
@@ -39,13 +40,13 @@ pub fn built_is_spelled()
     ensures answer { AnswerIsSpelled }
     ensures error { ErrorIsSpelled }
 {
-    message_spelled();
-    avp_sized();
+    fitting_messages_are_spelled();
+    canonical_avps_have_padded_length();
 }
 
 /// What the capabilities exchanges of a node tell, as `sender` reads them, is what the node says of itself, extras too;
 /// and its watchdogs tell the number of its state (5.3 and 8.16). It stands for users.
-pub fn built_tells()
+pub fn exchanges_tell_the_node_and_watchdogs_its_state()
     ensures cer { CerTellsNode }
     ensures cea { CeaTellsNode }
     ensures dwr { DwrTellsState }
@@ -54,7 +55,7 @@ pub fn built_tells()
 
 /// Two sides have an application in common just where some Application-ID is on both, or one side is a relay
 /// (5.3).
-pub fn common_is_shared()
+pub fn applications_are_common_by_shared_id_or_relay()
     ensures caps { CommonIsShared }
     ensures nodes { NodesShare }
     // What a node says of itself tells the same of it.
@@ -64,6 +65,6 @@ pub fn common_is_shared()
 
 /// A side takes connections without security just where it names no Inband-Security-Id, or
 /// NO_INBAND_SECURITY among them (6.10).
-pub fn secure_names_none()
+pub fn sides_without_security_name_zero_or_no_id()
     ensures { SecureNamesNone }
 {}

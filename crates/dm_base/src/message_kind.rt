@@ -4,28 +4,19 @@ ghost use Rattle.dm_wire.specs.declared.avp.Avp.{Avp};
 ghost use Rattle.dm_dict.specs.Faults.{Fault};
 ghost use Rattle.dm_dict.specs.Judgement.{verdict_of};
 ghost use Rattle.dm_wire.specs.Borrowed.{Lists};
-ghost use Rattle.dm_base.specs.Commands.{is_base_command};
 ghost use Rattle.dm_base.specs.Kinds.{kind_by, kind, HoldsCopy};
 ghost use Rattle.dm_base.specs.declared.base_fault.BaseFault.TheVariants as faults_of;
 
 use crate::codes::{DISCONNECT_CAUSE, RESULT_CODE};
-use crate::received_avps::{caps_of, first_number_or_zero};
+use crate::received_avps::{first_number_or_zero, read_caps};
 use crate::{BaseCommand, BaseFault, Kind};
 use dm_dict::{Dictionary, NoMemory, Verdict};
 use dm_wire::{AvpsRef, Message};
 use std::alloc::Global;
 
-/// Whether the command is that of base messages: 257 (Capabilities-Exchange), 280 (Device-Watchdog) or 282
-/// (Disconnect-Peer) (RFC 6733, 5.3, 5.5 and 5.4). It never answers want of memory.
-pub fn is_base_command(command: u32) -> bool
-    ensures { result ≡ is_base_command command }
-{
-    BaseCommand::of(command).is_some()
-}
-
 /// The kind of a message of this command and R bit with these AVPs, with copies of its parts; or want of memory for
 /// these.
-fn copied_kind(
+fn kind_with_copied_parts(
     alloc: Global,
     command: BaseCommand,
     request: bool,
@@ -35,7 +26,7 @@ fn copied_kind(
     ensures memory { (l : List Avp) → OnErr result (HoldsCopy (Ok (kind_by (Some command) request l))) }
 {
     Ok(match command {
-        BaseCommand::CapabilitiesExchange if request => Kind::Cer(caps_of(alloc, avps)?),
+        BaseCommand::CapabilitiesExchange if request => Kind::Cer(read_caps(alloc, avps)?),
         BaseCommand::CapabilitiesExchange => Kind::Cea(first_number_or_zero(avps, RESULT_CODE)),
         BaseCommand::DeviceWatchdog if request => Kind::Dwr,
         BaseCommand::DeviceWatchdog => Kind::Dwa,
@@ -66,7 +57,7 @@ pub fn classify(
         return Ok(Kind::Other);
     };
     match dictionary.check(alloc, message)? {
-        Verdict::Good => Ok(copied_kind(
+        Verdict::Good => Ok(kind_with_copied_parts(
             alloc,
             command,
             message.header.request,

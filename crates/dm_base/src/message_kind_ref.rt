@@ -13,12 +13,13 @@ use crate::BaseCommand;
 use crate::caps_ref::CapsRef;
 use crate::codes::{DISCONNECT_CAUSE, ORIGIN_HOST, ORIGIN_REALM, RESULT_CODE};
 use crate::kind_ref::KindRef;
-use crate::received_avps::{first_data_of_code, first_number_or_zero, spelled_avps_are_members};
+use crate::private_laws::spelled_avps_are_members;
+use crate::received_avps::{first_data_of_code, first_number_or_zero};
 use dm_dict::{Dictionary, Judged};
 use dm_wire::{AvpsRef, MessageRef};
 
 /// The kind of a message of this command and R bit with the AVPs in these octets, its parts where they lie.
-fn borrowed_kind<'a>(command: BaseCommand, request: bool, rest: &'a [u8]) -> KindRef<'a>
+fn kind_with_borrowed_parts<'a>(command: BaseCommand, request: bool, rest: &'a [u8]) -> KindRef<'a>
     requires { is_some (members rest.now) ≡ true }
     ensures told { (l : List Avp) → members rest.now ≡ Some l → kind_with l result ≡ kind_by (Some command) request l }
     ensures lies { LiesIn result rest.now }
@@ -64,7 +65,7 @@ pub fn view<'a>(
     match dictionary.judge(message) {
         Judged::Good => {
             spelled_avps_are_members(message.rest);
-            Ok(borrowed_kind(command, header.request, message.rest))
+            Ok(kind_with_borrowed_parts(command, header.request, message.rest))
         }
         bad => Err(bad),
     }

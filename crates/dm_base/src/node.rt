@@ -1,13 +1,12 @@
-//! Nodes.
-ghost use Rattle.std.specs.Prelude.{◌≡◌, true, None, Some, IfOk, string_bytes, length};
+//! Nodes: what each says of itself, and why there is none of some parts (RFC 6733, 5.3).
+ghost use Rattle.std.specs.Prelude.{◌≡◌, true, None, Some, IfOk, string_bytes};
 ghost use Rattle.std.specs.Result.{result_err};
-ghost use Rattle.std.specs.List.{list_all};
-ghost use Rattle.std.specs.Str.{is_utf8};
 ghost use Rattle.dm_base.specs.Refusals.{node_fault};
-ghost use Rattle.dm_base.specs.Fit.{is_sized, is_name, are_addresses, is_number, is_product, are_ids};
+ghost use Rattle.dm_base.specs.Fit.{is_name, are_addresses, is_number, is_product, are_ids};
 
 use crate::limits::{MAX_ADDRESSES, MAX_IDS, MAX_NAME_LEN};
 use crate::names::is_visible_text;
+use crate::private_laws::{addresses_have_their_sizes, ids_fit_32_bits, text_is_utf8};
 use crate::{Extras, IdList, IpList, NodeFault};
 use dm_dict::{Ip, Text};
 use dm_wire::Octets;
@@ -34,7 +33,7 @@ pub struct Node {
 }
 
 /// Why there is no node of these parts; None where there is one.
-fn fault_of_parts(
+fn fault_of_node_parts(
     host: &[u8],
     realm: &[u8],
     addresses: &[Ip],
@@ -60,47 +59,6 @@ fn fault_of_parts(
         return Some(NodeFault::TooLong);
     }
     None
-}
-
-fn ipv4_has_four_octets(address: &[u8; 4])
-    ensures { length address.now ≡ 4 }
-{}
-
-fn ipv6_has_sixteen_octets(address: &[u8; 16])
-    ensures { length address.now ≡ 16 }
-{}
-
-/// The address has the octets of its family, as its type says.
-fn address_has_its_size(ip: &Ip)
-    ensures { is_sized ip.now ≡ true }
-{
-    match ip {
-        Ip::V4(address) => ipv4_has_four_octets(address),
-        Ip::V6(address) => ipv6_has_sixteen_octets(address),
-    }
-}
-
-/// All addresses have the octets of their families, as their types say.
-fn addresses_have_their_sizes(addresses: &[Ip])
-    ensures { list_all is_sized addresses.now ≡ true }
-{
-    for ip in addresses {
-        address_has_its_size(ip);
-    }
-}
-
-/// The ids fit 32 bits, as their type says.
-#[tactic(auto, using(crate::proofs::Fitting::all_numbers))]
-pub(crate) fn ids_fit_32_bits(ids: &[u32])
-    ensures { list_all is_number ids.now ≡ true }
-{}
-
-/// The text is UTF-8, as its type says.
-#[tactic(auto, using(crate::proofs::Fitting::is_text))]
-fn text_is_utf8(text: &Text)
-    ensures { is_utf8 text.now ≡ true }
-{
-    let _text = text.as_str();
 }
 
 impl Node {
@@ -133,7 +91,7 @@ impl Node {
         ensures extras { IfOk result (λ node. node.extras ≡ None) }
     {
         let product = Text::from_string(product);
-        match fault_of_parts(
+        match fault_of_node_parts(
             host.as_slice(),
             realm.as_slice(),
             addresses.as_slice(),

@@ -1,16 +1,14 @@
-//! What the AVPs of a message say: data and numbers by code, and ids (RFC 6733, 5.3 and 5.4.3).
-ghost use Rattle.std.specs.Prelude.{◌≡◌, ◌≢◌, ◌++◌, List, [], Some, OnOk, IfOk, OnErr};
+//! What the AVPs of a message say: data and numbers by code, ids, and capabilities (RFC 6733, 5.3 and 5.4.3).
+ghost use Rattle.std.specs.Prelude.{◌≡◌, ◌≢◌, ◌++◌, List, [], OnOk, IfOk, OnErr};
 ghost use Rattle.std.specs.List.{flat_map};
 ghost use Rattle.std.specs.Option.{option_to_list};
 ghost use Rattle.dm_wire.specs.declared.avp.Avp.{Avp};
 ghost use Rattle.dm_wire.specs.Borrowed.{avp_of};
 ghost use Rattle.dm_wire.specs.Borrowed.{Lists};
-ghost use Rattle.dm_wire.specs.Members.{members};
-ghost use Rattle.dm_wire.specs.Spelling.{SpellsList};
 ghost use Rattle.dm_base.specs.Codes.{vendor_specific_application_id};
 ghost use Rattle.dm_base.specs.Kinds.{is_plain, data_at, number_in, number_at, plain_id, plain_ids};
 ghost use Rattle.dm_base.specs.Kinds.{security_id, security_ids, application_ids, caps_of};
-ghost use Rattle.dm_base.specs.Senders.{number_told};
+ghost use Rattle.dm_base.specs.Senders.{number_told, numbers_told, plain_number};
 
 use crate::codes::{
     ACCT_APPLICATION_ID, AUTH_APPLICATION_ID, INBAND_SECURITY_ID, ORIGIN_HOST, ORIGIN_REALM,
@@ -19,16 +17,8 @@ use crate::codes::{
 use crate::{Caps, IdList};
 use byteorder::{BigEndian, ByteOrder};
 use dm_dict::NoMemory;
-use dm_wire::laws::members_spell;
 use dm_wire::{AvpRef, AvpsRef, Octets, spells_avps};
 use std::alloc::Global;
-
-/// The octets that spell AVPs have them as their members.
-pub(crate) fn spelled_avps_are_members(octets: &[u8])
-    ensures { (l : List Avp) → SpellsList l octets.now → members octets.now ≡ Some l }
-{
-    members_spell();
-}
 
 /// Whether the AVP has this code and no vendor.
 pub(crate) fn has_code_and_no_vendor(avp: AvpRef<'_>, code: u32) -> bool
@@ -76,9 +66,20 @@ pub(crate) fn first_number_of_code(avps: AvpsRef<'_>, code: u32) -> Option<u32>
     number_of_four_octets(first_data_of_code(avps, code))
 }
 
+/// The number of the AVP, where it has this code, no vendor and four octets; else None.
+fn number_if_of_code(avp: AvpRef<'_>, code: u32) -> Option<u32>
+    ensures { result ≡ plain_number code (avp_of avp.entry) }
+{
+    if has_code_and_no_vendor(avp, code) {
+        number_of_four_octets(avp.bytes)
+    } else {
+        None
+    }
+}
+
 /// The id that an Auth-Application-Id or Acct-Application-Id tells. None for any other AVP, or where it has not four
 /// octets.
-pub(crate) fn plain_application_id(avp: AvpRef<'_>) -> Option<u32>
+pub(crate) fn auth_or_acct_application_id(avp: AvpRef<'_>) -> Option<u32>
     ensures { result ≡ plain_id (avp_of avp.entry) }
 {
     if has_code_and_no_vendor(avp, AUTH_APPLICATION_ID)
@@ -91,7 +92,7 @@ pub(crate) fn plain_application_id(avp: AvpRef<'_>) -> Option<u32>
 }
 
 /// The id that an Inband-Security-Id tells. None for any other AVP, or where it has not four octets.
-pub(crate) fn security_id(avp: AvpRef<'_>) -> Option<u32>
+pub(crate) fn inband_security_id(avp: AvpRef<'_>) -> Option<u32>
     ensures { result ≡ security_id (avp_of avp.entry) }
 {
     if has_code_and_no_vendor(avp, INBAND_SECURITY_ID) {
@@ -119,15 +120,33 @@ pub(crate) fn push_id_if_some(ids: &mut Vec<u32>, id: Option<u32>) -> Result<(),
     Ok(())
 }
 
+/// The numbers of all AVPs of this code, appended.
+pub(crate) fn push_all_numbers_of_code(
+    ids: &mut Vec<u32>,
+    avps: AvpsRef<'_>,
+    code: u32,
+) -> Result<(), NoMemory>
+    ensures put { (l : List Avp) → Lists avps.entry l
+        → OnOk result (ids.new.items ≡ ids.old.items ++ numbers_told code l) }
+    ensures memory { (l : List Avp) → Lists avps.entry l → OnErr result (numbers_told code l ≢ []) }
+{
+    let mut left = avps;
+    while let Some((avp, rest)) = left.split_first() {
+        push_id_if_some(ids, number_if_of_code(avp, code))?;
+        left = rest;
+    }
+    Ok(())
+}
+
 /// The ids of the AVPs of a Vendor-Specific-Application-Id, appended.
-fn push_ids_of_members(ids: &mut Vec<u32>, avps: AvpsRef<'_>) -> Result<(), NoMemory>
+fn push_application_ids_of_members(ids: &mut Vec<u32>, avps: AvpsRef<'_>) -> Result<(), NoMemory>
     ensures put { (l : List Avp) → Lists avps.entry l
         → OnOk result (ids.new.items ≡ ids.old.items ++ flat_map plain_ids l) }
     ensures memory { (l : List Avp) → Lists avps.entry l → OnErr result (flat_map plain_ids l ≢ []) }
 {
     let mut left = avps;
     while let Some((avp, rest)) = left.split_first() {
-        push_id_if_some(ids, plain_application_id(avp))?;
+        push_id_if_some(ids, auth_or_acct_application_id(avp))?;
         left = rest;
     }
     Ok(())
@@ -135,17 +154,17 @@ fn push_ids_of_members(ids: &mut Vec<u32>, avps: AvpsRef<'_>) -> Result<(), NoMe
 
 /// The ids of applications that an AVP tells, appended.
 #[tactic(auto, using(crate::proofs::Ids::none_inside, crate::proofs::Ids::all_inside, crate::proofs::Ids::some_inside))]
-fn push_ids_of_avp(ids: &mut Vec<u32>, avp: AvpRef<'_>) -> Result<(), NoMemory>
+fn push_application_ids_of_avp(ids: &mut Vec<u32>, avp: AvpRef<'_>) -> Result<(), NoMemory>
     ensures put { OnOk result (ids.new.items ≡ ids.old.items ++ application_ids (avp_of avp.entry)) }
     ensures memory { OnErr result (application_ids (avp_of avp.entry) ≢ []) }
 {
     if !is_vendor_specific_application_id(avp) {
-        return push_id_if_some(ids, plain_application_id(avp));
+        return push_id_if_some(ids, auth_or_acct_application_id(avp));
     }
     if !spells_avps(avp.bytes) {
         return Ok(());
     }
-    push_ids_of_members(ids, AvpsRef::Spelled(avp.bytes))
+    push_application_ids_of_members(ids, AvpsRef::Spelled(avp.bytes))
 }
 
 /// The ids of applications that AVPs tell, appended.
@@ -156,7 +175,7 @@ fn push_application_ids(ids: &mut Vec<u32>, avps: AvpsRef<'_>) -> Result<(), NoM
 {
     let mut left = avps;
     while let Some((avp, rest)) = left.split_first() {
-        push_ids_of_avp(ids, avp)?;
+        push_application_ids_of_avp(ids, avp)?;
         left = rest;
     }
     Ok(())
@@ -169,7 +188,7 @@ fn push_security_ids(ids: &mut Vec<u32>, avps: AvpsRef<'_>) -> Result<(), NoMemo
 {
     let mut left = avps;
     while let Some((avp, rest)) = left.split_first() {
-        push_id_if_some(ids, security_id(avp))?;
+        push_id_if_some(ids, inband_security_id(avp))?;
         left = rest;
     }
     Ok(())
@@ -195,7 +214,7 @@ fn read_security_ids(alloc: Global, avps: AvpsRef<'_>) -> Result<IdList, NoMemor
 }
 
 /// The capabilities that AVPs tell, copied; or want of memory.
-pub(crate) fn caps_of(alloc: Global, avps: AvpsRef<'_>) -> Result<Caps, NoMemory>
+pub(crate) fn read_caps(alloc: Global, avps: AvpsRef<'_>) -> Result<Caps, NoMemory>
     ensures { (l : List Avp) → Lists avps.entry l → IfOk result (λ caps. caps ≡ caps_of l) }
 {
     Ok(Caps {

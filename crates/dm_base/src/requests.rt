@@ -7,10 +7,10 @@ ghost use Rattle.dm_base.specs.Built.{cause_number, own_caps, built_cer, built_d
 
 use crate::codes::{CAPABILITIES_EXCHANGE, DEVICE_WATCHDOG, DISCONNECT_CAUSE, DISCONNECT_PEER};
 use crate::headers::header_of_request;
-use crate::laws::built_is_spelled;
+use crate::laws::octets_spell_built_messages;
 use crate::sent_avps::{
-    capabilities_avp_bound, own_state_id, push_capabilities, push_origin, push_origin_state_id,
-    unsigned32_avp,
+    capabilities_avp_capacity, own_state_id, push_capabilities, push_origin_host_and_realm,
+    push_origin_state_id, unsigned32_avp,
 };
 use crate::{Cause, Node};
 use dm_dict::NoMemory;
@@ -26,9 +26,9 @@ pub fn cer(alloc: Global, node: &Node, id: u32) -> Result<Message, NoMemory>
     // It is read as a request that tells the node's own capabilities.
     ensures kind { IsBase (built_cer node.now id) (kinds.Cer (own_caps node.now)) }
 {
-    built_is_spelled();
+    octets_spell_built_messages();
     let header = header_of_request(CAPABILITIES_EXCHANGE, id);
-    let mut avps = Vec::with_capacity(alloc, capabilities_avp_bound(node))?;
+    let mut avps = Vec::with_capacity(alloc, capabilities_avp_capacity(node))?;
     push_capabilities(alloc, &mut avps, node, None)?;
     Ok(Message {
         header,
@@ -44,10 +44,10 @@ pub fn dwr(alloc: Global, node: &Node, id: u32) -> Result<Message, NoMemory>
     ensures spelled { HasSpelling (built_dwr node.now id) }
     ensures kind { IsBase (built_dwr node.now id) kinds.Dwr }
 {
-    built_is_spelled();
+    octets_spell_built_messages();
     let header = header_of_request(DEVICE_WATCHDOG, id);
     let mut avps = Vec::with_capacity(alloc, 3)?;
-    push_origin(alloc, &mut avps, node)?;
+    push_origin_host_and_realm(alloc, &mut avps, node)?;
     push_origin_state_id(alloc, &mut avps, own_state_id(node))?;
     Ok(Message {
         header,
@@ -63,10 +63,10 @@ pub fn dpr(alloc: Global, node: &Node, id: u32, cause: Cause) -> Result<Message,
     ensures spelled { HasSpelling (built_dpr node.now id cause) }
     ensures kind { IsBase (built_dpr node.now id cause) (kinds.Dpr (pos (cause_number cause))) }
 {
-    built_is_spelled();
+    octets_spell_built_messages();
     let header = header_of_request(DISCONNECT_PEER, id);
     let mut avps = Vec::with_capacity(alloc, 3)?;
-    push_origin(alloc, &mut avps, node)?;
+    push_origin_host_and_realm(alloc, &mut avps, node)?;
     avps.push(unsigned32_avp(alloc, DISCONNECT_CAUSE, cause as u32)?)?;
     Ok(Message {
         header,

@@ -1,54 +1,24 @@
 //! What a capabilities exchange says of its sender, and a disconnect of its cause, where it lies in the message
 //! (RFC 6733, 5.3 and 5.4.3).
-ghost use Rattle.std.specs.Prelude.{◌≡◌, ◌≢◌, ◌++◌, List, [], is_some, nat_eq, OnOk, OnErr, IfSome};
+ghost use Rattle.std.specs.Prelude.{◌≡◌, ◌≢◌, List, [], is_some, nat_eq, OnErr, IfSome};
 ghost use Rattle.std.specs.List.{flat_map};
 ghost use Rattle.dm_wire.specs.declared.avp.Avp.{Avp};
-ghost use Rattle.dm_wire.specs.Borrowed.{Lists, avp_of};
 ghost use Rattle.dm_wire.specs.Spelling.{SpellsList};
 ghost use Rattle.dm_base.specs.Codes.{capabilities_exchange};
-ghost use Rattle.dm_base.specs.Senders.{HasAvps, number_told, plain_number, numbers_told, cause_told};
+ghost use Rattle.dm_base.specs.Senders.{HasAvps, number_told, numbers_told, cause_told};
 
 use crate::codes::{
     CAPABILITIES_EXCHANGE, DISCONNECT_CAUSE, DISCONNECT_PEER, FIRMWARE_REVISION, ORIGIN_HOST,
     ORIGIN_REALM, ORIGIN_STATE_ID, PRODUCT_NAME, SUPPORTED_VENDOR_ID, VENDOR_ID,
 };
+use crate::private_laws::spelled_avps_are_members;
 use crate::received_avps::{
-    first_data_of_code, first_number_of_code, has_code_and_no_vendor, number_of_four_octets,
-    push_id_if_some, read_application_ids, spelled_avps_are_members,
+    first_data_of_code, first_number_of_code, push_all_numbers_of_code, read_application_ids,
 };
 use crate::{IdList, SenderRef};
 use dm_dict::NoMemory;
-use dm_wire::{AvpRef, AvpsRef, MessageRef};
+use dm_wire::{AvpsRef, MessageRef};
 use std::alloc::Global;
-
-/// The number of the AVP, where it has this code, no vendor and four octets; else None.
-fn number_if_of_code(avp: AvpRef<'_>, code: u32) -> Option<u32>
-    ensures { result ≡ plain_number code (avp_of avp.entry) }
-{
-    if has_code_and_no_vendor(avp, code) {
-        number_of_four_octets(avp.bytes)
-    } else {
-        None
-    }
-}
-
-/// The numbers of all AVPs of this code, appended.
-fn push_all_numbers_of_code(
-    ids: &mut Vec<u32>,
-    avps: AvpsRef<'_>,
-    code: u32,
-) -> Result<(), NoMemory>
-    ensures put { (l : List Avp) → Lists avps.entry l
-        → OnOk result (ids.new.items ≡ ids.old.items ++ numbers_told code l) }
-    ensures memory { (l : List Avp) → Lists avps.entry l → OnErr result (numbers_told code l ≢ []) }
-{
-    let mut left = avps;
-    while let Some((avp, rest)) = left.split_first() {
-        push_id_if_some(ids, number_if_of_code(avp, code))?;
-        left = rest;
-    }
-    Ok(())
-}
 
 impl<'a> SenderRef<'a> {
     ghost use Rattle.std.specs.Prelude.{IfOk};

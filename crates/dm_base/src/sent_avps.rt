@@ -1,4 +1,5 @@
-//! The AVPs of which a node's messages are made (RFC 6733, 4.1, 5.3, 6.3, 6.4 and 7.5).
+//! The AVPs of which a node's messages are made, and the state id that they tell (RFC 6733, 4.1, 5.3, 6.3, 6.4, 7.5 and
+//! 8.16).
 ghost use Rattle.std.specs.Prelude.{◌≡◌, ◌≤◌, ◌++◌, ◌∷◌, [], IfOk, OnOk, map, nat_le};
 ghost use Rattle.std.specs.Option.{option_copied};
 ghost use Rattle.dm_wire.specs.Spelling.{avp_length};
@@ -27,21 +28,21 @@ use std::slice;
 const LONGEST_ADDRESS: usize = 18;
 
 /// An AVP without vendor, with the M bit, of these octets, which are moved and not copied.
-fn avp_of_octets(code: u32, octets: Vec<u8>) -> Avp
+fn mandatory_avp(code: u32, octets: Vec<u8>) -> Avp
     ensures { result ≡ avp code octets.items }
 {
     Avp::new(code, None, true, Octets::from_vec(octets))
 }
 
-/// An AVP without vendor, with the M bit.
-fn avp_of_copied_octets(alloc: Global, code: u32, octets: &[u8]) -> Result<Avp, NoMemory>
+/// An AVP without vendor, with the M bit, of a copy of these octets.
+fn copied_mandatory_avp(alloc: Global, code: u32, octets: &[u8]) -> Result<Avp, NoMemory>
     ensures { IfOk result (λ a. a ≡ avp code octets.now) }
 {
-    Ok(avp_of_octets(code, Vec::from_slice(alloc, octets)?))
+    Ok(mandatory_avp(code, Vec::from_slice(alloc, octets)?))
 }
 
 /// An AVP without vendor, with the M bit, of these octets where they lie.
-pub(crate) fn borrowed_avp(code: u32, bytes: &[u8]) -> AvpRef<'_>
+pub(crate) fn borrowed_mandatory_avp(code: u32, bytes: &[u8]) -> AvpRef<'_>
     ensures { avp_of result ≡ avp code bytes.now }
 {
     AvpRef {
@@ -53,11 +54,11 @@ pub(crate) fn borrowed_avp(code: u32, bytes: &[u8]) -> AvpRef<'_>
     }
 }
 
-/// An AVP of type Unsigned32 or Enumerated.
+/// An AVP without vendor, with the M bit, of type Unsigned32 or Enumerated.
 pub(crate) fn unsigned32_avp(alloc: Global, code: u32, number: u32) -> Result<Avp, NoMemory>
     ensures { IfOk result (λ a. a ≡ number_avp code number) }
 {
-    avp_of_copied_octets(alloc, code, &number.to_be_bytes())
+    copied_mandatory_avp(alloc, code, &number.to_be_bytes())
 }
 
 /// Two octets of address family, then the address (RFC 6733, 4.3.1).
@@ -78,11 +79,15 @@ fn host_ip_address_avp(alloc: Global, ip: &Ip) -> Result<Avp, NoMemory>
         Ip::V4(address) => octets_of_address(alloc, 1, address)?,
         Ip::V6(address) => octets_of_address(alloc, 2, address)?,
     };
-    Ok(avp_of_octets(HOST_IP_ADDRESS, octets))
+    Ok(mandatory_avp(HOST_IP_ADDRESS, octets))
 }
 
 /// A Host-IP-Address for each address, appended.
-fn push_addresses(alloc: Global, avps: &mut Vec<Avp>, addresses: &[Ip]) -> Result<(), NoMemory>
+fn push_host_ip_addresses(
+    alloc: Global,
+    avps: &mut Vec<Avp>,
+    addresses: &[Ip],
+) -> Result<(), NoMemory>
     ensures { OnOk result (avps.new.items ≡ avps.old.items ++ map address_avp addresses.now) }
 {
     for ip in addresses {
@@ -92,7 +97,7 @@ fn push_addresses(alloc: Global, avps: &mut Vec<Avp>, addresses: &[Ip]) -> Resul
 }
 
 /// An AVP of this code for each number, appended.
-fn push_number_avps(
+fn push_unsigned32_avps(
     alloc: Global,
     avps: &mut Vec<Avp>,
     code: u32,
@@ -107,11 +112,15 @@ fn push_number_avps(
 }
 
 /// Origin-Host and Origin-Realm, appended.
-pub(crate) fn push_origin(alloc: Global, avps: &mut Vec<Avp>, node: &Node) -> Result<(), NoMemory>
+pub(crate) fn push_origin_host_and_realm(
+    alloc: Global,
+    avps: &mut Vec<Avp>,
+    node: &Node,
+) -> Result<(), NoMemory>
     ensures { OnOk result (avps.new.items ≡ avps.old.items ++ origin node.now []) }
 {
-    avps.push(avp_of_copied_octets(alloc, ORIGIN_HOST, node.host.as_slice())?)?;
-    avps.push(avp_of_copied_octets(alloc, ORIGIN_REALM, node.realm.as_slice())?)?;
+    avps.push(copied_mandatory_avp(alloc, ORIGIN_HOST, node.host.as_slice())?)?;
+    avps.push(copied_mandatory_avp(alloc, ORIGIN_REALM, node.realm.as_slice())?)?;
     Ok(())
 }
 
@@ -126,7 +135,7 @@ fn octets_of_avp(alloc: Global, avp: &Avp) -> Result<Vec<u8>, NoMemory>
 }
 
 /// Whether a failed AVP is short enough to be handed back.
-fn fits_failed_avp(avp: &Avp) -> bool
+fn fits_in_failed_avp(avp: &Avp) -> bool
     ensures { result ≡ nat_le (avp_length avp.now) longest_failed }
 {
     match avp.wire_len() {
@@ -136,7 +145,7 @@ fn fits_failed_avp(avp: &Avp) -> bool
 }
 
 /// A Failed-AVP that holds the failed AVP, appended, where there is one that isn't too long.
-pub(crate) fn push_failed_avp(
+pub(crate) fn push_failed_avp_if_fitting(
     alloc: Global,
     avps: &mut Vec<Avp>,
     failed: Option<&Avp>,
@@ -144,8 +153,8 @@ pub(crate) fn push_failed_avp(
     ensures { OnOk result (avps.new.items ≡ avps.old.items ++ failed_avps (option_copied failed.entry)) }
 {
     if let Some(avp) = failed {
-        if fits_failed_avp(avp) {
-            avps.push(avp_of_octets(FAILED_AVP, octets_of_avp(alloc, avp)?))?;
+        if fits_in_failed_avp(avp) {
+            avps.push(mandatory_avp(FAILED_AVP, octets_of_avp(alloc, avp)?))?;
         }
     }
     Ok(())
@@ -155,7 +164,7 @@ pub(crate) fn push_failed_avp(
 fn push_product_name(alloc: Global, avps: &mut Vec<Avp>, node: &Node) -> Result<(), NoMemory>
     ensures { OnOk result (avps.new.items ≡ avps.old.items ++ product_avp node.now.product ∷ []) }
 {
-    let mut avp = avp_of_copied_octets(alloc, PRODUCT_NAME, node.product.as_str().as_bytes())?;
+    let mut avp = copied_mandatory_avp(alloc, PRODUCT_NAME, node.product.as_str().as_bytes())?;
     avp.mandatory = false;
     avps.push(avp)?;
     Ok(())
@@ -224,10 +233,10 @@ fn octets_of_vendor_application(
     let vendor = application.vendor.to_be_bytes();
     let id = application.application.to_be_bytes();
     let mut octets = Vec::with_capacity(alloc, 24)?;
-    push_avp_or_no_memory(&mut octets, borrowed_avp(VENDOR_ID, &vendor))?;
+    push_avp_or_no_memory(&mut octets, borrowed_mandatory_avp(VENDOR_ID, &vendor))?;
     push_avp_or_no_memory(
         &mut octets,
-        borrowed_avp(application_id_code(application.accounting), &id),
+        borrowed_mandatory_avp(application_id_code(application.accounting), &id),
     )?;
     Ok(octets)
 }
@@ -238,7 +247,7 @@ fn vendor_application_avp(alloc: Global, application: &VendorApplication) -> Res
     ensures { IfOk result (λ a. a ≡ specific_avp application.now) }
 {
     let octets = octets_of_vendor_application(alloc, application)?;
-    Ok(avp_of_octets(VENDOR_SPECIFIC_APPLICATION_ID, octets))
+    Ok(mandatory_avp(VENDOR_SPECIFIC_APPLICATION_ID, octets))
 }
 
 /// A Vendor-Specific-Application-Id for each application of a vendor (RFC 6733, 6.11), appended.
@@ -257,7 +266,7 @@ fn push_vendor_applications(
 
 /// How many AVPs the applications of vendors and the supported vendors take: at most 512.
 #[tactic(auto, using(crate::proofs::Fitting::few_applications, crate::proofs::Fitting::few_ids))]
-fn extras_avp_bound(node: &Node) -> usize
+fn vendor_lists_avp_count(node: &Node) -> usize
     ensures { result ≤ 512 }
 {
     match &node.extras {
@@ -269,11 +278,11 @@ fn extras_avp_bound(node: &Node) -> usize
 /// How many AVPs a capabilities exchange is given room for: 9, and one for each address, id, application of a vendor
 /// and supported vendor. No clause says that they are enough: a list without room grows.
 #[tactic(auto, using(crate::proofs::Fitting::few_addresses, crate::proofs::Fitting::few_ids))]
-pub(crate) fn capabilities_avp_bound(node: &Node) -> usize {
+pub(crate) fn capabilities_avp_capacity(node: &Node) -> usize {
     let addresses = node.addresses.as_slice().len();
     let auth = node.auth.as_slice().len();
     let acct = node.acct.as_slice().len();
-    9 + addresses + auth + acct + extras_avp_bound(node)
+    9 + addresses + auth + acct + vendor_lists_avp_count(node)
 }
 
 /// The number of the node's state, where it has one.
@@ -304,7 +313,7 @@ fn push_supported_vendors(alloc: Global, avps: &mut Vec<Avp>, node: &Node) -> Re
         ≡ avps.old.items ++ map (number_avp supported_vendor_id) (supported_vendors node.now.extras)) }
 {
     if let Some(extras) = &node.extras {
-        push_number_avps(alloc, avps, SUPPORTED_VENDOR_ID, extras.vendors.as_slice())?;
+        push_unsigned32_avps(alloc, avps, SUPPORTED_VENDOR_ID, extras.vendors.as_slice())?;
     }
     Ok(())
 }
@@ -333,14 +342,14 @@ fn push_applications_and_firmware(
 ) -> Result<(), NoMemory>
     ensures { OnOk result (avps.new.items ≡ avps.old.items ++ application_avps node.now) }
 {
-    push_number_avps(alloc, avps, AUTH_APPLICATION_ID, node.auth.as_slice())?;
-    push_number_avps(alloc, avps, ACCT_APPLICATION_ID, node.acct.as_slice())?;
+    push_unsigned32_avps(alloc, avps, AUTH_APPLICATION_ID, node.auth.as_slice())?;
+    push_unsigned32_avps(alloc, avps, ACCT_APPLICATION_ID, node.acct.as_slice())?;
     push_vendor_applications_and_firmware(alloc, avps, node)?;
     Ok(())
 }
 
 /// What stands behind Product-Name, appended.
-fn push_avps_after_product(
+fn push_avps_after_product_name(
     alloc: Global,
     avps: &mut Vec<Avp>,
     node: &Node,
@@ -351,7 +360,7 @@ fn push_avps_after_product(
         ++ (failed_avps (option_copied failed.entry) ++ behind_failed node.now))) }
 {
     push_origin_state_id(alloc, avps, own_state_id(node))?;
-    push_failed_avp(alloc, avps, failed)?;
+    push_failed_avp_if_fitting(alloc, avps, failed)?;
     push_supported_vendors(alloc, avps, node)?;
     push_applications_and_firmware(alloc, avps, node)?;
     Ok(())
@@ -367,10 +376,10 @@ pub(crate) fn push_capabilities(
     ensures { OnOk result (avps.new.items
         ≡ avps.old.items ++ capabilities node.now (failed_avps (option_copied failed.entry))) }
 {
-    push_origin(alloc, avps, node)?;
-    push_addresses(alloc, avps, node.addresses.as_slice())?;
+    push_origin_host_and_realm(alloc, avps, node)?;
+    push_host_ip_addresses(alloc, avps, node.addresses.as_slice())?;
     avps.push(unsigned32_avp(alloc, VENDOR_ID, node.vendor)?)?;
     push_product_name(alloc, avps, node)?;
-    push_avps_after_product(alloc, avps, node, failed)?;
+    push_avps_after_product_name(alloc, avps, node, failed)?;
     Ok(())
 }

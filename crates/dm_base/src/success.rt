@@ -10,10 +10,10 @@ ghost use Rattle.dm_base.specs.Built.{origin, state_avps, result_avp, built_answ
 use crate::Node;
 use crate::codes::{ORIGIN_HOST, ORIGIN_REALM, ORIGIN_STATE_ID, RESULT_CODE, SUCCESS};
 use crate::headers::header_of_answer;
-use crate::laws::built_is_spelled;
-use crate::sent_avps::{borrowed_avp, state_id_in_answer};
+use crate::laws::octets_spell_built_messages;
+use crate::sent_avps::{borrowed_mandatory_avp, state_id_in_answer};
 use dm_wire::codes::limits::HEADER_LEN;
-use dm_wire::laws::{avp_sized, canonical_spells};
+use dm_wire::laws::{canonical_avps_have_padded_length, canonical_octets_spell_message};
 use dm_wire::{Header, WireFault, header_octets, push_avp};
 use std::alloc::Global;
 
@@ -23,10 +23,10 @@ fn success_and_origin_size(node: &Node) -> usize
     ensures size { result ≡ length (canonical_list (result_avp success ∷ origin node.now [])) }
     ensures small { result ≤ 540 }
 {
-    avp_sized();
-    borrowed_avp(RESULT_CODE, &SUCCESS.to_be_bytes()).padded_len()
-        + borrowed_avp(ORIGIN_HOST, node.host.as_slice()).padded_len()
-        + borrowed_avp(ORIGIN_REALM, node.realm.as_slice()).padded_len()
+    canonical_avps_have_padded_length();
+    borrowed_mandatory_avp(RESULT_CODE, &SUCCESS.to_be_bytes()).padded_len()
+        + borrowed_mandatory_avp(ORIGIN_HOST, node.host.as_slice()).padded_len()
+        + borrowed_mandatory_avp(ORIGIN_REALM, node.realm.as_slice()).padded_len()
 }
 
 /// The octets that Origin-State-Id takes, where there is a number for it.
@@ -34,20 +34,23 @@ fn origin_state_id_size(state: Option<u32>) -> usize
     ensures size { result ≡ length (canonical_list (state_avps state)) }
     ensures small { result ≤ 12 }
 {
-    avp_sized();
+    canonical_avps_have_padded_length();
     match state {
-        Some(number) => borrowed_avp(ORIGIN_STATE_ID, &number.to_be_bytes()).padded_len(),
+        Some(number) => borrowed_mandatory_avp(ORIGIN_STATE_ID, &number.to_be_bytes()).padded_len(),
         None => 0,
     }
 }
 
 /// Origin-State-Id, appended, where there is a number for it.
-fn push_state_id_octets(out: &mut Vec<u8>, state: Option<u32>) -> Result<(), WireFault>
+fn push_origin_state_id_octets(out: &mut Vec<u8>, state: Option<u32>) -> Result<(), WireFault>
     ensures put { OnOk result (out.new.items ≡ out.old.items ++ canonical_list (state_avps state)) }
     ensures memory { IfErr result (λ fault. fault ≡ WireFault.NoMemory) }
 {
     if let Some(number) = state {
-        push_avp(out, borrowed_avp(ORIGIN_STATE_ID, &number.to_be_bytes()))?;
+        push_avp(
+            out,
+            borrowed_mandatory_avp(ORIGIN_STATE_ID, &number.to_be_bytes()),
+        )?;
     }
     Ok(())
 }
@@ -59,9 +62,18 @@ fn push_success_and_origin(out: &mut Vec<u8>, node: &Node) -> Result<(), WireFau
         ++ canonical_list (result_avp success ∷ origin node.now [])) }
     ensures memory { IfErr result (λ fault. fault ≡ WireFault.NoMemory) }
 {
-    push_avp(out, borrowed_avp(RESULT_CODE, &SUCCESS.to_be_bytes()))?;
-    push_avp(out, borrowed_avp(ORIGIN_HOST, node.host.as_slice()))?;
-    push_avp(out, borrowed_avp(ORIGIN_REALM, node.realm.as_slice()))?;
+    push_avp(
+        out,
+        borrowed_mandatory_avp(RESULT_CODE, &SUCCESS.to_be_bytes()),
+    )?;
+    push_avp(
+        out,
+        borrowed_mandatory_avp(ORIGIN_HOST, node.host.as_slice()),
+    )?;
+    push_avp(
+        out,
+        borrowed_mandatory_avp(ORIGIN_REALM, node.realm.as_slice()),
+    )?;
     Ok(())
 }
 
@@ -80,7 +92,7 @@ fn push_success_avps(out: &mut Vec<u8>, node: &Node, state: Option<u32>) -> Resu
     ensures memory { IfErr result (λ fault. fault ≡ WireFault.NoMemory) }
 {
     push_success_and_origin(out, node)?;
-    push_state_id_octets(out, state)?;
+    push_origin_state_id_octets(out, state)?;
     Ok(())
 }
 
@@ -96,8 +108,8 @@ pub fn success_octets(alloc: Global, node: &Node, to: &Header) -> Result<Vec<u8>
     ensures long { IsErrOf result WireFault.TooLong ↔ (max_command < to.now.command) }
     ensures fault { IfErr result (λ fault. (fault ≡ WireFault.TooLong) ⊎ (fault ≡ WireFault.NoMemory)) }
 {
-    built_is_spelled();
-    canonical_spells();
+    octets_spell_built_messages();
+    canonical_octets_spell_message();
     let state = state_id_in_answer(node, to.command);
     let size = HEADER_LEN as usize + success_avps_size(node, state);
     let Some(header) = header_octets(header_of_answer(false, to), size as u32) else {

@@ -1,5 +1,10 @@
-//! Applications of vendors.
+//! Applications of vendors, and their ids.
+ghost use Rattle.std.specs.Prelude.{◌≡◌, IfOk};
+ghost use Rattle.dm_base.specs.Specific.{ids_of};
+
+use dm_dict::NoMemory;
 use dm_wire::Listed;
+use std::alloc::Global;
 
 /// An application of a vendor: what a Vendor-Specific-Application-Id says (RFC 6733, 6.11).
 #[derive(Clone, Copy, Debug, PartialEq, Eq)]
@@ -14,3 +19,17 @@ pub struct VendorApplication {
 
 /// Applications of vendors, in order.
 pub type VendorApplicationList = Listed<VendorApplication>;
+
+/// The ids of applications of vendors, in order.
+pub(crate) fn ids_of_applications(
+    alloc: Global,
+    applications: &[VendorApplication],
+) -> Result<Vec<u32>, NoMemory>
+    ensures { IfOk result (λ ids. ids.items ≡ ids_of applications.now) }
+{
+    let mut ids = Vec::with_capacity(alloc, applications.len())?;
+    for application in applications {
+        ids.push(application.application)?;
+    }
+    Ok(ids)
+}

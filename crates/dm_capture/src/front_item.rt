@@ -6,7 +6,7 @@ use crate::fault::FaultKind;
 use crate::interface::Interface;
 use crate::order::Order;
 use crate::packet::Record;
-use crate::pcap::{PcapForm, file_header_at, record_at};
+use crate::pcap::{PcapForm, file_header_at_front, record_at_front};
 use crate::section::item_in_section;
 
 /// What is known of the file so far, but for a section's interfaces.
@@ -55,8 +55,8 @@ pub(crate) fn item_at_front(
     ensures fault { IfErr result (HasFrontFault layout interfaces.now octets.now) }
 {
     match layout {
-        Layout::Start => file_header_at(octets),
-        Layout::Pcap(form) => record_at(form, octets),
+        Layout::Start => file_header_at_front(octets),
+        Layout::Pcap(form) => record_at_front(form, octets),
         Layout::Pcapng(order) => item_in_section(order, interfaces, octets),
     }
 }

@@ -4,7 +4,7 @@ ghost use Rattle.dm_capture.specs.Interfaces.{IsInterface, HasInterfaceFault, Is
 
 use crate::fault::FaultKind;
 use crate::options::option_value;
-use crate::order::{Order, u16_at, u32_at, u64_of};
+use crate::order::{Order, u16_at, u32_at, u64_at_front};
 use crate::time::{Resolution, resolution_from_octet};
 
 /// The octets of a description without options.
@@ -52,13 +52,13 @@ pub(crate) fn read_interface(
     Ok(Interface {
         link: u16_at(order, block, 8),
         limit: u32_at(order, block, 12),
-        resolution: resolution_said(order, options),
-        offset: offset_said(order, options),
+        resolution: resolution_from_options(order, options),
+        offset: offset_from_options(order, options),
     })
 }
 
 /// The resolution that the options say: microseconds where they don't.
-fn resolution_said(order: Order, options: &[u8]) -> Resolution
+fn resolution_from_options(order: Order, options: &[u8]) -> Resolution
     ensures { IsResolution order options.now result }
 {
     match option_value(order, options, TIME_RESOLUTION, 1) {
@@ -68,11 +68,11 @@ fn resolution_said(order: Order, options: &[u8]) -> Resolution
 }
 
 /// The offset in seconds that the options say: 0 where they don't.
-fn offset_said(order: Order, options: &[u8]) -> u64
+fn offset_from_options(order: Order, options: &[u8]) -> u64
     ensures { IsOffset order options.now result }
 {
     match option_value(order, options, TIME_OFFSET, 8) {
-        Some(value) => u64_of(order, value),
+        Some(value) => u64_at_front(order, value),
         None => 0,
     }
 }

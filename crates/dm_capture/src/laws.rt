@@ -2,8 +2,8 @@
 ghost use Rattle.dm_capture.specs.Laws.{LaterChangesNothing, EachPcapIsRead, EachPcapngIsRead, ItemOrFault};
 ghost use Rattle.dm_capture.specs.Laws.{ItemOrPart, PartOrFault, OneFrontFault, RunsJoin, OneItem, OneReading};
 
-/// One header, record or block stands at the front of what is left, a part of one, or one fault.
-pub fn one_front()
+/// At most one of these stands at the front of what is left: one header, record or block, a part of one, one fault.
+pub fn at_most_one_item_is_in_front()
     ensures item { OneItem }
     ensures part { ItemOrPart }
     ensures fault { ItemOrFault }
@@ -12,13 +12,13 @@ pub fn one_front()
 {}
 
 /// What is read of a capture is read in one way.
-pub fn one_reading()
+pub fn captures_are_read_in_one_way()
     ensures { OneReading }
 {}
 
 /// What was read stays so, whatever comes behind it, and reading goes on from there. So it doesn't matter into which
 /// pieces the file was cut.
-pub fn pieces_join()
+pub fn cuts_change_no_packets()
     ensures stays { LaterChangesNothing }
     ensures joins { RunsJoin }
 {}

@@ -36,7 +36,7 @@ pub(crate) fn u32_at(order: Order, octets: &[u8], at: usize) -> u32
 }
 
 /// The number of eight octets.
-pub(crate) fn u64_of(order: Order, octets: &[u8]) -> u64
+pub(crate) fn u64_at_front(order: Order, octets: &[u8]) -> u64
     requires { 8 ≤ length octets.now }
     ensures { result ≡ ordered_number order 8 octets.now }
 {

@@ -34,7 +34,7 @@ pub struct Packet {
 }
 
 /// The packet with a number that a record of these octets holds.
-pub(crate) fn packet_from(
+pub(crate) fn packet_of_record(
     alloc: Global,
     number: u64,
     stands: Record,

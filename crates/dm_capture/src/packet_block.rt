@@ -8,7 +8,7 @@ use crate::fault::FaultKind;
 use crate::interface::{Interface, interface_at};
 use crate::order::{Order, u16_at, u32_at};
 use crate::packet::{MOST_CAPTURED, Record};
-use crate::time::time_from;
+use crate::time::time_after_offset;
 
 /// The type of an enhanced packet block.
 const ENHANCED: u32 = 6;
@@ -32,7 +32,7 @@ fn number_of_interface(order: Order, block: &[u8]) -> usize
 }
 
 /// The packet of an enhanced packet block, or of the obsolete one.
-pub(crate) fn timed_packet(
+pub(crate) fn enhanced_or_obsolete_packet(
     order: Order,
     interfaces: &[Interface],
     block: &[u8],
@@ -45,13 +45,13 @@ pub(crate) fn timed_packet(
         return Err(FaultKind::WrongLength);
     }
     match interface_at(interfaces, number_of_interface(order, block)) {
-        Some(interface) => timed_packet_of_interface(order, interface, block),
+        Some(interface) => enhanced_or_obsolete_of_interface(order, interface, block),
         None => Err(FaultKind::UnknownInterface),
     }
 }
 
 /// The packet of an enhanced packet block, or of the obsolete one, which was captured on this interface.
-fn timed_packet_of_interface(
+fn enhanced_or_obsolete_of_interface(
     order: Order,
     interface: Interface,
     block: &[u8],
@@ -70,7 +70,7 @@ fn timed_packet_of_interface(
     let units = u32_at(order, block, 12) as u64 * 4_294_967_296 + u32_at(order, block, 16) as u64;
     Ok(Record {
         link: interface.link,
-        time: Some(time_from(interface.resolution, interface.offset, units)),
+        time: Some(time_after_offset(interface.resolution, interface.offset, units)),
         original: u32_at(order, block, 24),
         start: 28,
         captured,
@@ -78,7 +78,7 @@ fn timed_packet_of_interface(
 }
 
 /// How many octets a simple packet block has of its packet: all, or as many as its interface's limit.
-fn captured_len_of_simple(interface: Interface, original: u32) -> usize
+fn captured_len_in_simple_block(interface: Interface, original: u32) -> usize
     ensures { result ≡ simple_captured interface original }
 {
     if interface.limit == 0 {
@@ -118,7 +118,7 @@ fn simple_packet_of_interface(
     ensures fault { IfErr result (HasSimpleLengthFault order interface block.now) }
 {
     let original = u32_at(order, block, 8);
-    let captured = captured_len_of_simple(interface, original);
+    let captured = captured_len_in_simple_block(interface, original);
     if block.len() < SIMPLE_LEN + captured {
         return Err(FaultKind::WrongLength);
     }

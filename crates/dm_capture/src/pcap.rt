@@ -11,7 +11,7 @@ use crate::fault::FaultKind;
 use crate::front_item::{Found, Holds};
 use crate::order::{Order, u16_at, u32_at};
 use crate::packet::{MOST_CAPTURED, Record};
-use crate::section::{is_section, section_at};
+use crate::section::{begins_with_section_header, section_header_at_front};
 use crate::time::{Resolution, Time};
 
 /// The octets of a file's header.
@@ -35,7 +35,7 @@ pub(crate) struct PcapForm {
 }
 
 /// The header of a pcap file, or of the first section of a pcapng file, at its front; `None` where it isn't whole yet.
-pub(crate) fn file_header_at(octets: &[u8]) -> Result<Option<Found>, FaultKind>
+pub(crate) fn file_header_at_front(octets: &[u8]) -> Result<Option<Found>, FaultKind>
     ensures within { IfOk result (λ found. IfSome found (λ f. (0 < f.size) × (f.size ≤ length octets.now))) }
     ensures item { IfOk result (λ found. IfSome found (λ f. IsItem Start [] (take f.size octets.now) f.holds)) }
     ensures part { IfOk result (λ found. IfNone found (IsPart Start octets.now)) }
@@ -44,18 +44,18 @@ pub(crate) fn file_header_at(octets: &[u8]) -> Result<Option<Found>, FaultKind>
     if octets.len() < 4 {
         return Ok(None);
     }
-    if is_section(octets) {
-        return section_at(octets);
+    if begins_with_section_header(octets) {
+        return section_header_at_front(octets);
     }
-    match magic_at(octets) {
-        Some((order, resolution)) => pcap_header_at(order, resolution, octets),
+    match order_and_resolution_of_magic(octets) {
+        Some((order, resolution)) => pcap_header_at_front(order, resolution, octets),
         None => Err(FaultKind::NoCapture),
     }
 }
 
 /// The order of octets and the resolution that the first four octets of a pcap file tell; None where they are no pcap
 /// file's.
-fn magic_at(octets: &[u8]) -> Option<(Order, Resolution)>
+fn order_and_resolution_of_magic(octets: &[u8]) -> Option<(Order, Resolution)>
     requires { 4 ≤ length octets.now }
     ensures { result ≡ magic_of octets.now }
 {
@@ -75,7 +75,7 @@ fn magic_at(octets: &[u8]) -> Option<(Order, Resolution)>
 }
 
 /// The header of a pcap file whose first octets gave its order and resolution; `None` where it isn't whole yet.
-fn pcap_header_at(
+fn pcap_header_at_front(
     order: Order,
     resolution: Resolution,
     octets: &[u8],
@@ -107,7 +107,7 @@ fn pcap_header_at(
 }
 
 /// The record of a pcap file at the front; `None` where it isn't whole yet.
-pub(crate) fn record_at(form: PcapForm, octets: &[u8]) -> Result<Option<Found>, FaultKind>
+pub(crate) fn record_at_front(form: PcapForm, octets: &[u8]) -> Result<Option<Found>, FaultKind>
     ensures within { IfOk result (λ found. IfSome found (λ f. (0 < f.size) × (f.size ≤ length octets.now))) }
     ensures item { IfOk result (λ found. IfSome found (λ f. IsPcapRecord form (take f.size octets.now) f.holds)) }
     ensures part { IfOk result (λ found. IfNone found (IsRecordPart form octets.now)) }

@@ -13,7 +13,7 @@ use crate::buffer::compact_if_mostly_taken;
 use crate::fault::{CaptureFault, FaultKind};
 use crate::front_item::{Found, Holds, Layout, item_at_front};
 use crate::interface::Interface;
-use crate::packet::{Packet, Record, packet_from};
+use crate::packet::{Packet, Record, packet_of_record};
 use std::alloc::{AllocError, Global};
 use std::marker::Model;
 
@@ -92,7 +92,7 @@ impl CaptureReader {
             match self.front_item() {
                 Ok(Some(found)) => match found.holds {
                     Holds::PacketRecord(stands) => return self.take_packet(found.size, stands),
-                    holds => self.pass_item(found.size, holds)?,
+                    holds => self.move_past_front_item(found.size, holds)?,
                 },
                 Ok(None) => return Ok(None),
                 Err(kind) => return Err(self.keep_fault(kind)),
@@ -116,7 +116,7 @@ impl CaptureReader {
         ensures said { result ≡ record { offset = self.old.offset; kind = kind } }
         ensures kept { self.new ≡ record self.old { fault = Some result } }
     {
-        let fault = self.fault_at_front(kind);
+        let fault = self.fault_with_front_place(kind);
         self.fault = Some(fault);
         fault
     }
@@ -129,7 +129,7 @@ impl CaptureReader {
     }
 
     /// A fault of this kind, with the place of what stands at the front.
-    pub(crate) fn fault_at_front(&self, kind: FaultKind) -> CaptureFault
+    pub(crate) fn fault_with_front_place(&self, kind: FaultKind) -> CaptureFault
         ensures { result ≡ record { offset = self.now.offset; kind = kind } }
     {
         CaptureFault {
@@ -139,7 +139,7 @@ impl CaptureReader {
     }
 
     /// Passes what stands at the front, and notes what it says of the file. Where memory is wanted nothing changes.
-    fn pass_item(&mut self, size: usize, holds: Holds) -> Result<(), CaptureFault>
+    fn move_past_front_item(&mut self, size: usize, holds: Holds) -> Result<(), CaptureFault>
         requires { size ≤ length self.old.octets }
         ensures passed { OnOk result (self.new ≡ passed self.old size holds (drop size self.old.octets)) }
         ensures err { OnErr result (self.new ≡ self.old) }
@@ -154,7 +154,7 @@ impl CaptureReader {
             }
             Holds::Description(interface) => {
                 if self.interfaces.push(interface).is_err() {
-                    return Err(self.fault_at_front(FaultKind::OutOfMemory));
+                    return Err(self.fault_with_front_place(FaultKind::OutOfMemory));
                 }
             }
             Holds::PacketRecord(_) => self.packets = self.packets.saturating_add(1),
@@ -180,28 +180,28 @@ impl CaptureReader {
         let number = self.packets.saturating_add(1);
         let end = self.taken + size;
         let alloc = *self.buffer.allocator();
-        match packet_from(alloc, number, stands, &self.buffer[self.taken..end]) {
+        match packet_of_record(alloc, number, stands, &self.buffer[self.taken..end]) {
             Ok(packet) => {
                 self.packets = number;
                 self.taken = end;
                 self.offset = self.offset.saturating_add(size as u64);
                 Ok(Some(packet))
             }
-            Err(_) => Err(self.fault_at_front(FaultKind::OutOfMemory)),
+            Err(_) => Err(self.fault_with_front_place(FaultKind::OutOfMemory)),
         }
     }
 
     /// What is wrong where the file ends here, once `next` answered `None`: nothing, a record that isn't whole, or no
     /// file at all.
-    pub fn end(&self) -> Result<(), CaptureFault>
+    pub fn check_end(&self) -> Result<(), CaptureFault>
         ensures whole { OnOk result ((self.now.octets ≡ []) × (self.now.layout ≢ Start)) }
         ensures fault { IfErr result (λ fault. (fault.offset ≡ self.now.offset) × EndsWith self.now fault.kind) }
     {
         if self.taken < self.buffer.len() {
-            return Err(self.fault_at_front(FaultKind::CutRecord));
+            return Err(self.fault_with_front_place(FaultKind::CutRecord));
         }
         match self.layout {
-            Layout::Start => Err(self.fault_at_front(FaultKind::NoCapture)),
+            Layout::Start => Err(self.fault_with_front_place(FaultKind::NoCapture)),
             _ => Ok(()),
         }
     }

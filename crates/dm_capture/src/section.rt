@@ -11,7 +11,7 @@ use crate::fault::FaultKind;
 use crate::front_item::{Found, Holds};
 use crate::interface::{Interface, read_interface};
 use crate::order::{Order, u16_at, u32_at};
-use crate::packet_block::{simple_packet, timed_packet};
+use crate::packet_block::{enhanced_or_obsolete_packet, simple_packet};
 
 /// The type of a section's header: the same in either order.
 const SECTION: u32 = 0x0a0d_0d0a;
@@ -31,7 +31,7 @@ const SIMPLE_PACKET: u32 = 3;
 const ENHANCED_PACKET: u32 = 6;
 
 /// Whether a section's header stands at the front.
-pub(crate) fn is_section(octets: &[u8]) -> bool
+pub(crate) fn begins_with_section_header(octets: &[u8]) -> bool
     requires { 4 ≤ length octets.now }
     ensures { result ≡ nat_eq (ordered_number Order.Big 4 octets.now) section_type }
 {
@@ -53,7 +53,7 @@ fn order_of_section(octets: &[u8]) -> Option<Order>
 }
 
 /// The section's header at the front, which begins with a section's type; `None` where it isn't whole yet.
-pub(crate) fn section_at(octets: &[u8]) -> Result<Option<Found>, FaultKind>
+pub(crate) fn section_header_at_front(octets: &[u8]) -> Result<Option<Found>, FaultKind>
     requires least { 4 ≤ length octets.now }
     requires section { ordered_number Order.Big 4 octets.now ≡ section_type }
     ensures within { IfOk result (λ found. IfSome found (λ f. (0 < f.size) × (f.size ≤ length octets.now))) }
@@ -65,13 +65,13 @@ pub(crate) fn section_at(octets: &[u8]) -> Result<Option<Found>, FaultKind>
         return Ok(None);
     }
     match order_of_section(octets) {
-        Some(order) => section_of_order(order, octets),
+        Some(order) => section_header_in_order(order, octets),
         None => Err(FaultKind::NoCapture),
     }
 }
 
 /// The section's header at the front, whose order is known; `None` where it isn't whole yet.
-fn section_of_order(order: Order, octets: &[u8]) -> Result<Option<Found>, FaultKind>
+fn section_header_in_order(order: Order, octets: &[u8]) -> Result<Option<Found>, FaultKind>
     requires least { 12 ≤ length octets.now }
     requires section { ordered_number Order.Big 4 octets.now ≡ section_type }
     requires ordered { section_order octets.now ≡ Some order }
@@ -113,8 +113,8 @@ pub(crate) fn item_in_section(
     if octets.len() < 8 {
         return Ok(None);
     }
-    if is_section(octets) {
-        return section_at(octets);
+    if begins_with_section_header(octets) {
+        return section_header_at_front(octets);
     }
     block_within_section(order, interfaces, octets)
 }
@@ -158,7 +158,7 @@ fn read_section_block(
             Ok(interface) => Ok(Holds::Description(interface)),
             Err(fault) => Err(fault),
         },
-        PACKET | ENHANCED_PACKET => match timed_packet(order, interfaces, block) {
+        PACKET | ENHANCED_PACKET => match enhanced_or_obsolete_packet(order, interfaces, block) {
             Ok(record) => Ok(Holds::PacketRecord(record)),
             Err(fault) => Err(fault),
         },

@@ -34,12 +34,12 @@ pub fn next_packet<R: BufRead>(
 {
     match capture.kept_fault() {
         Some(fault) => Err(StreamFault::Capture(fault)),
-        None => read_packet(reader, capture),
+        None => next_packet_without_kept_fault(reader, capture),
     }
 }
 
 /// The next packet, where no fault is kept.
-fn read_packet<R: BufRead>(
+fn next_packet_without_kept_fault<R: BufRead>(
     reader: &mut R,
     capture: &mut CaptureReader,
 ) -> Result<Option<Packet>, StreamFault>
@@ -52,25 +52,28 @@ fn read_packet<R: BufRead>(
             Ok(None) => (),
             Err(fault) => return Err(StreamFault::Capture(fault)),
         }
-        if feed_piece(reader, capture)? {
-            return answer_at_end(capture);
+        if feed_from_reader(reader, capture)? {
+            return none_or_fault_at_end(capture);
         }
     }
     Err(StreamFault::Unreadable)
 }
 
 /// What is answered where the file ends: None where it ends whole, else what is wrong.
-fn answer_at_end(capture: &CaptureReader) -> Result<Option<Packet>, StreamFault>
+fn none_or_fault_at_end(capture: &CaptureReader) -> Result<Option<Packet>, StreamFault>
     ensures { EndsAs capture.now result }
 {
-    match capture.end() {
+    match capture.check_end() {
         Ok(()) => Ok(None),
         Err(fault) => Err(StreamFault::Capture(fault)),
     }
 }
 
 /// Feeds the capture what the reader has at hand. True where the reader has nothing left.
-fn feed_piece<R: BufRead>(reader: &mut R, capture: &mut CaptureReader) -> Result<bool, StreamFault>
+fn feed_from_reader<R: BufRead>(
+    reader: &mut R,
+    capture: &mut CaptureReader,
+) -> Result<bool, StreamFault>
     ensures fed { IfOk result (FeedsPiece (R.remaining reader.old) (R.remaining reader.new)
         capture.old capture.new) }
     ensures none { IfErr result (FeedsNone (R.remaining reader.old) (R.remaining reader.new)
@@ -82,7 +85,7 @@ fn feed_piece<R: BufRead>(reader: &mut R, capture: &mut CaptureReader) -> Result
     };
     let size = octets.len();
     if capture.feed(octets).is_err() {
-        return Err(StreamFault::Capture(capture.fault_at_front(FaultKind::OutOfMemory)));
+        return Err(StreamFault::Capture(capture.fault_with_front_place(FaultKind::OutOfMemory)));
     }
     reader.consume(size);
     Ok(size == 0)
@@ -95,7 +98,7 @@ fn fault_unless_interrupted(capture: &CaptureReader, error: Error) -> Result<boo
 {
     match error.kind() {
         ErrorKind::Interrupted => Ok(false),
-        ErrorKind::OutOfMemory => Err(StreamFault::Capture(capture.fault_at_front(
+        ErrorKind::OutOfMemory => Err(StreamFault::Capture(capture.fault_with_front_place(
             FaultKind::OutOfMemory,
         ))),
         _ => Err(StreamFault::Unreadable),

@@ -34,13 +34,13 @@ pub(crate) fn is_wanted<S: Copy, C: Takes<S>>(choice: Choice<'_>, sent: S) -> bo
     match choice {
         Choice::Ports(ports) => has_one_of_ports(ports, ends.first)
             || has_one_of_ports(ports, ends.second),
-        Choice::Any => C::begins_exchange(sent),
+        Choice::Any => C::begins_exchange_request(sent),
     }
 }
 
 impl<'a> Choice<'a> {
     /// Whether the connection of the segment is looked at. It takes no memory.
-    pub fn wants(&self, segment: Segment<'_>) -> bool
+    pub fn wants_connection_of(&self, segment: Segment<'_>) -> bool
         ensures { IsTrue result ↔ Wants self.now (segment_seen segment.entry) }
     {
         is_wanted::<Segment<'_>, Connection>(*self, segment)

@@ -10,7 +10,7 @@ ghost use Rattle.dm_connections.specs.Held.{SentGoesIn};
 use crate::choice::{Choice, is_wanted};
 use crate::ends::Ends;
 use crate::limits::Limits;
-use crate::octet_sum::{changed_sum, next_message_counted, take_sent_counted};
+use crate::octet_sum::{next_message_keeping_sum, sum_with_part_replaced, take_sent_keeping_sum};
 use crate::two_way::{Takes, TwoWay};
 use dm_flows::{Connection, Endpoint};
 use lru::LruCache;
@@ -19,7 +19,8 @@ use std::hash::RandomState;
 use std::marker::Model;
 
 /// A connection that was let go: its ends, and the connection as it was, which tells how many of its octets were passed
-/// over and how many are lost with it: [`Connection::passed`] and [`Connection::pending`], say.
+/// over and how many are lost with it: [`Connection::octets_passed_over_both_ways`] and
+/// [`Connection::octets_pending_both_ways`], say.
 #[derive(Debug, Drop)]
 pub struct LetGo<C = Connection> {
     pub ends: Ends,
@@ -83,7 +84,7 @@ impl<C: TwoWay> Connections<C> {
 
     /// How many octets the connections hold in all, as [`TwoWay::octets_held`] counts them, up to 2^64 - 1. It takes
     /// one step, and never answers want of memory.
-    pub fn held(&self) -> u64
+    pub fn total_octets_held(&self) -> u64
         ensures { result ≡ min (all_octets C.held_in self.now.held) (2 ^ 64 - 1) }
     {
         if self.octets < u64::MAX as u128 {
@@ -94,7 +95,7 @@ impl<C: TwoWay> Connections<C> {
     }
 
     /// Whether more connections are held than may be, or more octets. It never answers want of memory.
-    pub fn is_past(&self, limits: Limits) -> bool
+    pub fn exceeds(&self, limits: Limits) -> bool
         ensures { IsTrue result
             ↔ (limits.connections < length self.now.held) ⊎ (limits.octets < all_octets C.held_in self.now.held) }
     {
@@ -110,7 +111,7 @@ impl<C: TwoWay> Connections<C> {
 
     /// The ends of the connection of two, if it is held: in that order, or else in the other one; None where it isn't.
     /// It never answers want of memory.
-    pub fn find(&self, source: Endpoint, destination: Endpoint) -> Option<Ends>
+    pub fn find_ends(&self, source: Endpoint, destination: Endpoint) -> Option<Ends>
         ensures { result ≡ found_ends self.now.held source destination }
     {
         let forth = Ends {
@@ -134,19 +135,19 @@ impl<C: TwoWay> Connections<C> {
         self.held.peek(&ends)
     }
 
-    /// How many octets of the connection of these ends were passed over so far, as [`TwoWay::octets_passed`] counts
-    /// them; None where none is held. It never answers want of memory.
-    pub fn passed(&self, ends: Ends) -> Option<u64>
+    /// How many octets of the connection of these ends were passed over so far, as [`TwoWay::octets_passed_over`]
+    /// counts them; None where none is held. It never answers want of memory.
+    pub fn octets_passed_over_of(&self, ends: Ends) -> Option<u64>
         ensures { result ≡ option_map C.passed_in (connection_of self.now.held ends) }
     {
         match self.held.peek(&ends) {
-            Some(connection) => Some(connection.octets_passed()),
+            Some(connection) => Some(connection.octets_passed_over()),
             None => None,
         }
     }
 
     /// Holds a new connection of these ends, of which none is held. Where memory is wanted nothing changes.
-    fn hold_new(&mut self, ends: Ends) -> Result<(), AllocError>
+    fn hold_new_connection(&mut self, ends: Ends) -> Result<(), AllocError>
         requires { connection_of self.old.held ends ≡ None }
         ensures put { OnOk result
             (self.new ≡ record self.old { held = with_newest C.new_of self.old.max ends self.old.held }) }
@@ -154,7 +155,7 @@ impl<C: TwoWay> Connections<C> {
     {
         // Asked for its clause: fewer than 2^63 are held.
         let _count = self.held.len();
-        let connection = C::open(self.alloc, ends, self.max);
+        let connection = C::new_between(self.alloc, ends, self.max);
         match self.held.put(ends, connection) {
             Ok(_) => Ok(()),
             Err(_) => Err(AllocError),
@@ -163,20 +164,20 @@ impl<C: TwoWay> Connections<C> {
 
     /// Holds a connection of these ends: the one that is held, in whichever order of them, or else a new one. Where
     /// memory is wanted nothing changes.
-    pub fn add(&mut self, ends: Ends) -> Result<(), AllocError>
+    pub fn add_unless_held(&mut self, ends: Ends) -> Result<(), AllocError>
         ensures added { OnOk result
             (self.new ≡ record self.old { held = with_one C.new_of self.old.max ends self.old.held }) }
         ensures unchanged { OnErr result (self.new ≡ self.old) }
     {
-        match self.find(ends.first, ends.second) {
+        match self.find_ends(ends.first, ends.second) {
             Some(_) => Ok(()),
-            None => self.hold_new(ends),
+            None => self.hold_new_connection(ends),
         }
     }
 
     /// The connection of these ends takes what one of them sent, as [`Takes::take_sent`] does; where none is held
     /// nothing changes. Where memory is wanted the connection was heard, and is left as that call leaves it.
-    pub fn hear<S: Copy>(&mut self, ends: Ends, sent: S) -> Result<(), AllocError>
+    pub fn take_if_held<S: Copy>(&mut self, ends: Ends, sent: S) -> Result<(), AllocError>
     where
         C: Takes<S>,
         ensures heard { OnOk result (holds_ends self.old.held ends ≡ true
@@ -189,7 +190,7 @@ impl<C: TwoWay> Connections<C> {
         // Asked for its clause: fewer than 2^63 are held.
         let _count = self.held.len();
         match self.held.get_mut(&ends) {
-            Some(connection) => take_sent_counted(connection, &mut self.octets, sent),
+            Some(connection) => take_sent_keeping_sum(connection, &mut self.octets, sent),
             None => Ok(()),
         }
     }
@@ -197,7 +198,11 @@ impl<C: TwoWay> Connections<C> {
     /// Hands out the next whole message of the connection of these ends, from its first end or else from its second
     /// one, as [`TwoWay::next_message`] does; None too where no such connection is held. Where memory is wanted nothing
     /// changes.
-    pub fn next(&mut self, ends: Ends, from_first: bool) -> Result<Option<Vec<u8>>, AllocError>
+    pub fn next_message_of(
+        &mut self,
+        ends: Ends,
+        from_first: bool,
+    ) -> Result<Option<Vec<u8>>, AllocError>
         ensures message { IfOk result (λ found. IfSome found
             (λ message. OneWayGoesOn C.one_way C.with_way self.old.held ends from_first self.new.held
             (λ before after. C.Hands before message.items after))) }
@@ -210,7 +215,7 @@ impl<C: TwoWay> Connections<C> {
         // Asked for its clause: fewer than 2^63 are held.
         let _count = self.held.len();
         match self.held.peek_mut(&ends) {
-            Some(connection) => next_message_counted(connection, &mut self.octets, from_first),
+            Some(connection) => next_message_keeping_sum(connection, &mut self.octets, from_first),
             None => Ok(None),
         }
     }
@@ -218,7 +223,7 @@ impl<C: TwoWay> Connections<C> {
     #[tactic(auto, using(crate::proofs::Sums::sum_append))]
     /// Lets the connection go that was idle longest, with all that it holds; None where none is held. It never answers
     /// want of memory.
-    pub fn let_go(&mut self) -> Option<LetGo<C>>
+    pub fn let_idlest_go(&mut self) -> Option<LetGo<C>>
         ensures last { IfSome result
             (λ gone. self.old.held ≡ self.new.held ++ (gone.ends, gone.connection) ∷ []) }
         ensures none { IfNone result ((self.old.held ≡ []) × (self.new ≡ self.old)) }
@@ -226,7 +231,7 @@ impl<C: TwoWay> Connections<C> {
     {
         match pop_idlest(&mut self.held) {
             Some((ends, connection)) => {
-                self.octets = changed_sum(self.octets, connection.octets_held(), 0);
+                self.octets = sum_with_part_replaced(self.octets, connection.octets_held(), 0);
                 Some(LetGo { ends, connection })
             }
             None => None,
@@ -235,7 +240,7 @@ impl<C: TwoWay> Connections<C> {
 
     /// The ends of the connection of what is sent: of the one that is held, or of a new one where it is wanted, which
     /// is held from here on; else None. Where memory is wanted nothing changes.
-    fn hold_if_wanted<S: Copy>(
+    fn find_or_hold_wanted<S: Copy>(
         &mut self,
         choice: Choice<'_>,
         sent: S,
@@ -252,13 +257,13 @@ impl<C: TwoWay> Connections<C> {
         ensures max { self.new.max ≡ self.old.max }
     {
         let ends = C::ends_of(sent);
-        if let Some(ends) = self.find(ends.first, ends.second) {
+        if let Some(ends) = self.find_ends(ends.first, ends.second) {
             return Ok(Some(ends));
         }
         if !is_wanted::<S, C>(choice, sent) {
             return Ok(None);
         }
-        match self.hold_new(ends) {
+        match self.hold_new_connection(ends) {
             Ok(()) => Ok(Some(ends)),
             Err(error) => Err(error),
         }
@@ -269,7 +274,11 @@ impl<C: TwoWay> Connections<C> {
     ///
     /// Where memory is wanted either nothing changed, or the connection is held, a new one too, was heard, and is left
     /// as [`Takes::take_sent`] leaves it.
-    pub fn take<S: Copy>(&mut self, choice: Choice<'_>, sent: S) -> Result<Option<Ends>, AllocError>
+    pub fn take_if_held_or_wanted<S: Copy>(
+        &mut self,
+        choice: Choice<'_>,
+        sent: S,
+    ) -> Result<Option<Ends>, AllocError>
     where
         C: Takes<S>,
         ensures taken { IfOk result (λ found. IfSome found (λ ends.
@@ -284,8 +293,8 @@ impl<C: TwoWay> Connections<C> {
             (λ before after. C.LeavesSent before sent after))) }
         ensures max { self.new.max ≡ self.old.max }
     {
-        match self.hold_if_wanted(choice, sent) {
-            Ok(Some(ends)) => match self.hear(ends, sent) {
+        match self.find_or_hold_wanted(choice, sent) {
+            Ok(Some(ends)) => match self.take_if_held(ends, sent) {
                 Ok(()) => Ok(Some(ends)),
                 Err(error) => Err(error),
             },

@@ -5,7 +5,7 @@ use crate::two_way::{Takes, TwoWay};
 use std::alloc::AllocError;
 
 /// The sum with one of its parts replaced: `before` by `after`.
-pub(crate) fn changed_sum(sum: u128, before: u64, after: u64) -> u128
+pub(crate) fn sum_with_part_replaced(sum: u128, before: u64, after: u64) -> u128
     requires part { before ≤ sum }
     requires fits { sum + after < 2 ^ 128 }
     ensures { result + before ≡ sum + after }
@@ -14,7 +14,7 @@ pub(crate) fn changed_sum(sum: u128, before: u64, after: u64) -> u128
 }
 
 /// The connection takes what one of its ends sent, as [`Takes::take_sent`] does, and the sum follows what it holds.
-pub(crate) fn take_sent_counted<S: Copy, C: Takes<S>>(
+pub(crate) fn take_sent_keeping_sum<S: Copy, C: Takes<S>>(
     connection: &mut C,
     sum: &mut u128,
     sent: S,
@@ -27,12 +27,12 @@ pub(crate) fn take_sent_counted<S: Copy, C: Takes<S>>(
 {
     let before = connection.octets_held();
     let taken = connection.take_sent(sent);
-    *sum = changed_sum(*sum, before, connection.octets_held());
+    *sum = sum_with_part_replaced(*sum, before, connection.octets_held());
     taken
 }
 
 /// Hands out the next message, as [`TwoWay::next_message`] does, and the sum follows what the connection holds.
-pub(crate) fn next_message_counted<C: TwoWay>(
+pub(crate) fn next_message_keeping_sum<C: TwoWay>(
     connection: &mut C,
     sum: &mut u128,
     from_first: bool,
@@ -50,6 +50,6 @@ pub(crate) fn next_message_counted<C: TwoWay>(
 {
     let held = connection.octets_held();
     let message = connection.next_message(from_first);
-    *sum = changed_sum(*sum, held, connection.octets_held());
+    *sum = sum_with_part_replaced(*sum, held, connection.octets_held());
     message
 }

@@ -3,7 +3,7 @@ ghost use Rattle.std.proofs.Common.{rules};
 
 use crate::ends::Ends;
 use crate::two_way::{Takes, TwoWay};
-use dm_flows::{Connection, Flow, Segment, begins_with_exchange};
+use dm_flows::{Connection, Flow, Segment, begins_with_exchange_request};
 use std::alloc::{AllocError, Global};
 
 impl TwoWay for Connection {
@@ -35,12 +35,12 @@ impl TwoWay for Connection {
 
     ghost new_holds_none = { Prim.search rules };
 
-    fn open(alloc: Global, ends: Ends, max: u32) -> Connection {
+    fn new_between(alloc: Global, ends: Ends, max: u32) -> Connection {
         Connection::new(alloc, ends.first, ends.second, max)
     }
 
-    fn octets_passed(&self) -> u64 {
-        self.passed()
+    fn octets_passed_over(&self) -> u64 {
+        self.octets_passed_over_both_ways()
     }
 
     fn octets_secured(&self) -> u64 {
@@ -48,18 +48,18 @@ impl TwoWay for Connection {
     }
 
     fn octets_held(&self) -> u64 {
-        self.held()
+        self.octets_held_both_ways()
     }
 
     fn octets_pending(&self) -> u64 {
-        self.pending()
+        self.octets_pending_both_ways()
     }
 
     fn next_message(&mut self, from_first: bool) -> Result<Option<Vec<u8>>, AllocError> {
         if from_first {
-            self.next_forth()
+            self.next_message_from_first()
         } else {
-            self.next_back()
+            self.next_message_from_second()
         }
     }
 }
@@ -85,11 +85,11 @@ impl<'a> Takes<Segment<'a>> for Connection {
         }
     }
 
-    fn begins_exchange(sent: Segment<'a>) -> bool {
-        begins_with_exchange(sent.payload)
+    fn begins_exchange_request(sent: Segment<'a>) -> bool {
+        begins_with_exchange_request(sent.payload)
     }
 
     fn take_sent(&mut self, sent: Segment<'a>) -> Result<(), AllocError> {
-        self.take(sent)
+        self.take_segment(sent)
     }
 }

@@ -1,4 +1,4 @@
-//! What is held of two ends.
+//! The traits of what a table of connections can hold.
 ghost use Rattle.std.specs.Prelude.{◌≡◌, ◌↔◌, IsTrue, OnOk, OnErr, IfOk, IfSome, IfNone};
 
 use crate::ends::Ends;
@@ -36,11 +36,11 @@ pub trait TwoWay: Drop {
     ghost HandsNone: { Self.Way → Self.Way → Type 0 };
 
     /// What is held of these ends before anything came, for messages of at most `max` octets.
-    fn open(alloc: Global, ends: Ends, max: u32) -> Self
+    fn new_between(alloc: Global, ends: Ends, max: u32) -> Self
         ensures { result ≡ new_of max ends };
 
     /// How many octets were passed over in both directions.
-    fn octets_passed(&self) -> u64
+    fn octets_passed_over(&self) -> u64
         ensures { result ≡ passed_in self.now };
 
     /// How many octets of Diameter over DTLS came in both directions, which aren't read (RFC 6733, 2.1 and 11.5).
@@ -90,7 +90,7 @@ pub trait Takes<S: Copy>: TwoWay {
         ensures { result ≡ between sent };
 
     /// Whether a Capabilities-Exchange-Request may begin in it, as the header tells. It takes no memory.
-    fn begins_exchange(sent: S) -> bool
+    fn begins_exchange_request(sent: S) -> bool
         ensures { IsTrue result ↔ BeginsExchange sent };
 
     /// Takes what one end sent.

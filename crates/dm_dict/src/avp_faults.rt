@@ -11,7 +11,7 @@ ghost use Rattle.dm_dict.specs.Located.{here, no_groups, avp_located, each_locat
 ghost use Rattle.dm_dict.specs.Locating.{AddsAt, HasRoomInside};
 ghost use Rattle.dm_dict.specs.Rules.{definition};
 
-use crate::avps::is_failed_avp;
+use crate::avps::has_failed_avp_code;
 use crate::codes::{AVP_NOT_ALLOWED, AVP_UNSUPPORTED, INVALID_AVP_LENGTH, INVALID_AVP_VALUE};
 use crate::data::data_fault;
 use crate::entry_faults::push_entries_faults;
@@ -21,7 +21,7 @@ use crate::judged::Failed;
 use crate::linked::{Linked, LinkedAvp, LinkedRule};
 use crate::occurrences::count_group_occurrence;
 use crate::path::{Path, Step};
-use crate::rules::{allows, look_up_by_marks};
+use crate::rules::{has_entry_allowing_avps, look_up_avp_by_marks};
 use dm_tables::{AvpDef, Tables};
 use dm_value::{AvpType, NoMemory};
 use dm_wire::{AvpRef, AvpsRef, spells_avps};
@@ -30,7 +30,7 @@ use std::alloc::Global;
 
 /// Adds what is wrong with an AVP of this definition, but for its members.
 #[inline(always)]
-fn add_own_faults<'a>(
+fn add_faults_of_avp_itself<'a>(
     findings: &mut Findings<'a>,
     path: Option<&Path>,
     def: Option<&AvpDef>,
@@ -52,7 +52,7 @@ fn add_own_faults<'a>(
         let code = AVP_NOT_ALLOWED;
         findings.add_fault(path, Fault { code, failed })?;
     }
-    if is_failed_avp(avp) {
+    if has_failed_avp_code(avp) {
         return Ok(());
     }
     if let AvpType::Grouped = def.kind {
@@ -112,11 +112,11 @@ fn add_avp_faults<'a>(
         (avp_located (group_located depth dictionary.now.tables.avps.items nth) allowed
         (avp_of avp.entry) (definition dictionary.now.tables.avps.items (avp_of avp.entry)))) }
 {
-    let Some(LinkedAvp { def, links }) = dictionary.avp_at(place) else {
-        return add_own_faults(findings, path, None, allowed, avp);
+    let Some(LinkedAvp { def, links }) = dictionary.linked_avp_at(place) else {
+        return add_faults_of_avp_itself(findings, path, None, allowed, avp);
     };
-    add_own_faults(findings, path, Some(def), allowed, avp)?;
-    if is_failed_avp(avp) {
+    add_faults_of_avp_itself(findings, path, Some(def), allowed, avp)?;
+    if has_failed_avp_code(avp) {
         return Ok(());
     }
     if let AvpType::Grouped = def.kind {
@@ -204,8 +204,8 @@ fn add_each_avp_faults<'a>(
 {
     let mut left = list;
     while let Some((avp, rest)) = left.split_first() {
-        let (place, entry) = look_up_by_marks(dictionary, rule, avp);
-        let allowed = allows(rule.entries, entry);
+        let (place, entry) = look_up_avp_by_marks(dictionary, rule, avp);
+        let allowed = has_entry_allowing_avps(rule.entries, entry);
         let nth = count_group_occurrence(numbers, path, dictionary, place, avp)?;
         add_avp_faults(
             alloc, findings, path, nth, dictionary, place, allowed, avp, depth,

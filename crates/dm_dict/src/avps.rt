@@ -14,18 +14,18 @@ ghost use Rattle.dm_dict.specs.Rules.{definition};
 use crate::codes::{
     AVP_NOT_ALLOWED, AVP_UNSUPPORTED, FAILED_AVP, INVALID_AVP_LENGTH, INVALID_AVP_VALUE,
 };
-use crate::counts::{MANY_ENTRIES, count_at_entry, counters, long_rule_counters};
-use crate::data::is_left_out;
+use crate::counts::{MANY_ENTRIES, count_at_entry, zero_counters, zero_counters_if_long_rule};
+use crate::data::is_unlisted_value;
 use crate::judged::{Failed, Judged};
 use crate::linked::{Linked, LinkedAvp, LinkedRule};
-use crate::rules::{allows, look_up_by_marks};
+use crate::rules::{has_entry_allowing_avps, look_up_avp_by_marks};
 use crate::windows::judge_entries;
 use dm_value::{AvpType, ValueFault, value_fault};
 use dm_wire::{AvpRef, AvpsRef, spells_avps};
 use std::alloc::Global;
 
 /// Whether the AVP is Failed-AVP, whose data isn't read.
-pub(crate) fn is_failed_avp(avp: AvpRef<'_>) -> bool
+pub(crate) fn has_failed_avp_code(avp: AvpRef<'_>) -> bool
     ensures { result ≡ is_failed_avp (avp_of avp.entry) }
 {
     avp.code == FAILED_AVP && avp.vendor == None
@@ -50,7 +50,7 @@ fn judge_avp<'a>(
     ensures missing { finds_missing result ≡ false }
 {
     let failed = Failed::Found(avp);
-    let Some(LinkedAvp { def, links }) = dictionary.avp_at(place) else {
+    let Some(LinkedAvp { def, links }) = dictionary.linked_avp_at(place) else {
         if avp.mandatory {
             return Judged::Bad {
                 code: AVP_UNSUPPORTED,
@@ -65,7 +65,7 @@ fn judge_avp<'a>(
             failed,
         };
     }
-    if is_failed_avp(avp) {
+    if has_failed_avp_code(avp) {
         return Judged::Good;
     }
     if let AvpType::Grouped = def.kind {
@@ -84,7 +84,7 @@ fn judge_avp<'a>(
             code: INVALID_AVP_VALUE,
             failed,
         },
-        _ if is_left_out(def, avp.bytes) => Judged::Bad {
+        _ if is_unlisted_value(def, avp.bytes) => Judged::Bad {
             code: INVALID_AVP_VALUE,
             failed,
         },
@@ -148,8 +148,8 @@ pub(crate) fn judge_list_from<'a>(
 {
     let mut left = from;
     while let Some((avp, rest)) = left.split_first() {
-        let (place, at) = look_up_by_marks(dictionary, rule, avp);
-        let allowed = allows(rule.entries, at);
+        let (place, at) = look_up_avp_by_marks(dictionary, rule, avp);
+        let allowed = has_entry_allowing_avps(rule.entries, at);
         match judge_avp(dictionary, place, allowed, avp, depth, alloc) {
             Judged::Good => {}
             Judged::Bad { code, failed } => return Judged::Bad { code, failed },
@@ -177,7 +177,7 @@ fn judge_list_on_stack<'a>(
         → shown result ≡ first (list_faults depth dictionary.now.tables.avps.items rule.entry.entries.now l) }
     ensures missing { finds_missing result ≡ false }
 {
-    let mut counts = counters::<MANY_ENTRIES>();
+    let mut counts = zero_counters::<MANY_ENTRIES>();
     judge_list_from(dictionary, rule, list, list, depth, alloc, &mut counts)
 }
 
@@ -198,7 +198,7 @@ fn judge_list<'a>(
         → shown result ≡ first (list_faults depth dictionary.now.tables.avps.items rule.entry.entries.now l) }
     ensures missing { finds_missing result ≡ false }
 {
-    let Some(mut counts) = long_rule_counters(alloc, rule.entries) else {
+    let Some(mut counts) = zero_counters_if_long_rule(alloc, rule.entries) else {
         return judge_list_on_stack(dictionary, rule, list, depth, alloc);
     };
     let room = counts.as_mut_slice();

@@ -51,7 +51,7 @@ fn greatest_counter(entry: &Entry) -> u16
 }
 
 /// How many more make eights.
-fn padding(size: usize) -> usize
+fn lanes_short_of_eights(size: usize) -> usize
     ensures { result ≡ short_of_eights size }
 {
     (8 - size % 8) % 8
@@ -59,7 +59,7 @@ fn padding(size: usize) -> usize
 
 /// Puts the bounds of the entries into lanes that are 0, the least ones from the first lane on and the greatest from
 /// the one in the middle.
-fn write_bounds(lanes: &mut [u16], entries: &[Entry], room: usize)
+fn fill_bounds(lanes: &mut [u16], entries: &[Entry], room: usize)
     requires room { length entries.now ≤ room }
     requires both { lanes.old ≡ replicate (2 * room) 0 }
     ensures { lanes.new ≡ in_lanes least_bound entries.now room ++ in_lanes greatest_bound entries.now room }
@@ -128,9 +128,9 @@ impl Bounds {
         ensures { IfOk result (λ bounds. bounds ≡ rule_bounds rule.now) }
     {
         let entries = rule.as_slice();
-        let room = entries.len() + padding(entries.len());
+        let room = entries.len() + lanes_short_of_eights(entries.len());
         let mut lanes = vec![in alloc; 0; 2 * room]?;
-        write_bounds(lanes.as_mut_slice(), entries, room);
+        fill_bounds(lanes.as_mut_slice(), entries, room);
         Ok(Bounds { lanes })
     }
 
@@ -144,7 +144,7 @@ impl Bounds {
 
     /// True only where each counter that has bounds lies within them.
     #[inline(always)]
-    pub(crate) fn hold(&self, counts: &[u16]) -> bool
+    pub(crate) fn are_kept_by(&self, counts: &[u16]) -> bool
         requires { length self.now.mins ≤ length counts.now }
         ensures { result ≡ true → AreWithin self.now counts.now }
     {

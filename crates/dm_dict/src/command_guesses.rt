@@ -10,7 +10,7 @@ const NONE: u16 = u16::MAX;
 
 /// The slot of a code with REQ.
 #[inline(always)]
-pub(crate) fn head_slot(code: u32, request: bool) -> usize
+pub(crate) fn command_slot(code: u32, request: bool) -> usize
     ensures { result < head_slots }
 {
     (code % 32) as usize * 2 + usize::from(request)
@@ -18,14 +18,14 @@ pub(crate) fn head_slot(code: u32, request: bool) -> usize
 
 /// Whether the command has the code with REQ and ERR.
 #[inline(always)]
-pub(crate) fn has_head(command: &CommandDef, code: u32, request: bool, err: bool) -> bool
+pub(crate) fn is_command_of(command: &CommandDef, code: u32, request: bool, err: bool) -> bool
     ensures { result ≡ is_headed code request err command.now }
 {
     code == command.code && request == command.request && err == command.err
 }
 
 /// The guess of a slot once the command at the place, to whose code the slot belongs, is noted: the first one stays.
-fn first_guess(guess: u16, place: usize) -> u16 {
+fn guess_after_noting(guess: u16, place: usize) -> u16 {
     if guess == NONE {
         place.min(NONE as usize) as u16
     } else {
@@ -34,11 +34,11 @@ fn first_guess(guess: u16, place: usize) -> u16 {
 }
 
 /// For each slot the place of the first of the commands that has it.
-pub(crate) fn head_guesses(commands: &[CommandDef]) -> [u16; 64] {
+pub(crate) fn guesses_of_commands(commands: &[CommandDef]) -> [u16; 64] {
     let mut guesses = [NONE; 64];
     for (place, command) in commands.iter().enumerate() {
-        let slot = head_slot(command.code, command.request);
-        guesses[slot] = first_guess(guesses[slot], place);
+        let slot = command_slot(command.code, command.request);
+        guesses[slot] = guess_after_noting(guesses[slot], place);
     }
     guesses
 }

@@ -32,7 +32,7 @@ pub(crate) const SHORT_WINDOW: usize = 4096;
 
 /// So many counters, all zero.
 #[inline(always)]
-pub(crate) fn counters<const SIZE: usize>() -> [u16; SIZE]
+pub(crate) fn zero_counters<const SIZE: usize>() -> [u16; SIZE]
     requires { SIZE ≤ window }
     ensures { (i : ℕ) → slice_index result i ≡ 0 }
 {
@@ -40,7 +40,7 @@ pub(crate) fn counters<const SIZE: usize>() -> [u16; SIZE]
 }
 
 /// A counter for each entry of a rule that has more of them than are counted on the stack, if there is memory for that.
-pub(crate) fn long_rule_counters(alloc: Option<Global>, rule: &Rule) -> Option<Vec<u16>>
+pub(crate) fn zero_counters_if_long_rule(alloc: Option<Global>, rule: &Rule) -> Option<Vec<u16>>
     ensures zero { IfSome result (λ counts. (i : ℕ) → slice_index counts.items i ≡ 0) }
     ensures size { IfSome result (λ counts. length counts.items ≡ length rule.now) }
 {

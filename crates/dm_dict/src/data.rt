@@ -16,7 +16,7 @@ use dm_tables::AvpDef;
 use dm_value::{AvpType, ValueFault, value_fault};
 
 /// Whether the octets are four, and a value that the list of an Enumerated leaves out.
-pub(crate) fn is_left_out(def: &AvpDef, octets: &[u8]) -> bool
+pub(crate) fn is_unlisted_value(def: &AvpDef, octets: &[u8]) -> bool
     ensures { result ≡ is_left_out def.now.kind def.now.values octets.now }
 {
     match def.kind {
@@ -37,7 +37,7 @@ pub(crate) fn data_fault(def: &AvpDef, octets: &[u8]) -> Option<u32>
     match value_fault(def.kind, octets) {
         Some(ValueFault::WrongLength) => Some(INVALID_AVP_LENGTH),
         Some(ValueFault::WrongValue) => Some(INVALID_AVP_VALUE),
-        _ if is_left_out(def, octets) => Some(INVALID_AVP_VALUE),
+        _ if is_unlisted_value(def, octets) => Some(INVALID_AVP_VALUE),
         _ => None,
     }
 }

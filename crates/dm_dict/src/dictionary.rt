@@ -19,13 +19,16 @@ ghost use Rattle.dm_dict.specs.Judgement.{shown, verdict_of};
 ghost use Rattle.dm_dict.specs.Typed.{AreTyped};
 ghost use Rattle.dm_dict.specs.Limits.{list_limit};
 
-use crate::judge::{judge_message, judge_spelled};
-use crate::laws::good_is_typed;
+use crate::judge::{judge_message, judge_spelled_message};
+use crate::laws::good_messages_have_typed_values;
 use crate::linked::Linked;
 use crate::{AvpDef, CommandDef, DictFault, Judged, NoMemory, Verdict};
-use dm_dict_text::laws::{no_definition_refused, one_definition, one_fault};
+use dm_dict_text::laws::{
+    defining_texts_have_no_fault, each_text_defines_one_whole_at_most,
+    each_text_has_one_first_fault_at_most,
+};
 use dm_dict_text::{print_tables, read_tables};
-use dm_tables::laws::one_of_each;
+use dm_tables::laws::each_name_and_code_defines_one_at_most;
 use dm_tables::{Tables, base_tables};
 use dm_wire::{AvpsRef, Message, MessageRef};
 use std::alloc::Global;
@@ -95,9 +98,9 @@ impl Dictionary {
         ensures refuses { (f : DictFault) → IsFirstFault text.now old.now f
             → (result ≡ Err f) ⊎ (result ≡ Err faults_of.NoMemory) }
     {
-        one_definition();
-        one_fault();
-        no_definition_refused();
+        each_text_defines_one_whole_at_most();
+        each_text_has_one_first_fault_at_most();
+        defining_texts_have_no_fault();
         match read_tables(alloc, text, &old.linked.tables) {
             Ok(tables) => Ok(linked_dictionary(alloc, tables)?),
             Err(fault) => Err(fault),
@@ -122,7 +125,7 @@ impl Dictionary {
         ensures one { filter (is_vendor name.now) self.now.vendors
             ≡ option_to_list (find (is_vendor name.now) self.now.vendors) }
     {
-        one_of_each();
+        each_name_and_code_defines_one_at_most();
         self.linked.tables.vendors.number_of(name)
     }
 
@@ -132,7 +135,7 @@ impl Dictionary {
         // No other definition has the name.
         ensures one { filter (is_named name.now) self.now.avps ≡ option_to_list (option_copied result) }
     {
-        one_of_each();
+        each_name_and_code_defines_one_at_most();
         self.linked.tables.avp_by_name(name)
     }
 
@@ -142,7 +145,7 @@ impl Dictionary {
         // No other definition has the code with the vendor.
         ensures one { filter (is_coded code vendor) self.now.avps ≡ option_to_list (option_copied result) }
     {
-        one_of_each();
+        each_name_and_code_defines_one_at_most();
         self.linked.avp_by_code(code, vendor)
     }
 
@@ -153,8 +156,8 @@ impl Dictionary {
         // No other definition has the code with the bits.
         ensures one { filter (is_headed code request err) self.now.commands ≡ option_to_list (option_copied result) }
     {
-        one_of_each();
-        self.linked.tables.command_by_head(code, request, err)
+        each_name_and_code_defines_one_at_most();
+        self.linked.tables.command_by_code(code, request, err)
     }
 
     /// The laws that every dictionary keeps to: each definition is sound beside those before it, and each entry
@@ -191,7 +194,7 @@ impl Dictionary {
         // Memory is wanted for the failed AVP alone.
         ensures memory { OnErr result (IsSomeAnd (first (faults self.now message.now)) (λ fault. IsSome fault.failed)) }
     {
-        good_is_typed();
+        good_messages_have_typed_values();
         let list = AvpsRef::Held(message.avps.as_slice());
         judge_message(&self.linked, &message.header, list, Some(alloc)).verdict(alloc)
     }
@@ -209,6 +212,6 @@ impl Dictionary {
         // What is found is one of the message's AVPs, or lies in a group of them; or it is such a group without data.
         ensures found { (l : List Avp) → SpellsList l message.now.rest.now → IfFound result (IsOneOf l) }
     {
-        judge_spelled(&self.linked, &message.header, message.rest)
+        judge_spelled_message(&self.linked, &message.header, message.rest)
     }
 }

@@ -19,7 +19,7 @@ ghost use Rattle.dm_dict.specs.Limits.{counter_limit};
 use crate::codes::{AVP_OCCURS_TOO_MANY_TIMES, MISSING_AVP};
 use crate::judged::{Failed, Judged};
 use crate::linked::LinkedRule;
-use crate::rules::counts_avp;
+use crate::rules::entry_counts_avp;
 use dm_tables::{Entry, Rule, Tables};
 use dm_value::least_len;
 use dm_wire::AvpsRef;
@@ -44,7 +44,7 @@ pub(crate) fn missing_avp_example(tables: &Tables, entry: &Entry) -> Failed<'sta
 }
 
 /// The AVP that has `max` before it among those that the entry at the place counts.
-fn first_past_max<'a>(
+fn first_avp_past_max<'a>(
     tables: &Tables,
     rule: LinkedRule<'_>,
     at: usize,
@@ -61,7 +61,7 @@ fn first_past_max<'a>(
     let mut before = max;
     let mut left = list;
     while let Some((avp, rest)) = left.split_first() {
-        if counts_avp(tables, rule, at, avp) {
+        if entry_counts_avp(tables, rule, at, avp) {
             if before == 0 {
                 return Failed::Found(avp);
             }
@@ -73,7 +73,7 @@ fn first_past_max<'a>(
 }
 
 /// Whether the entry at the place, which has this counter, counts more AVPs of the list than `number`.
-fn counts_more_than(
+fn entry_counts_more_than(
     tables: &Tables,
     rule: LinkedRule<'_>,
     at: usize,
@@ -92,7 +92,7 @@ fn counts_more_than(
     if counter < u16::MAX || number < u16::MAX as u32 {
         return number < counter as u32;
     }
-    match first_past_max(tables, rule, at, number, list) {
+    match first_avp_past_max(tables, rule, at, number, list) {
         Failed::Nothing => false,
         Failed::Found(_) | Failed::Example { .. } => true,
     }
@@ -100,7 +100,7 @@ fn counts_more_than(
 
 /// The first fault of the entry at the place, which has this counter, by its bounds.
 #[inline(never)]
-fn judge_bounds<'a>(
+fn judge_entry_by_bounds<'a>(
     tables: &Tables,
     rule: LinkedRule<'_>,
     at: usize,
@@ -117,7 +117,7 @@ fn judge_bounds<'a>(
     ensures missing { finds_missing result ≡ false }
 {
     let entry = &rule.entries.as_slice()[at];
-    if entry.min > 0 && !counts_more_than(tables, rule, at, entry.min - 1, counter, list) {
+    if entry.min > 0 && !entry_counts_more_than(tables, rule, at, entry.min - 1, counter, list) {
         let failed = missing_avp_example(tables, entry);
         return Judged::Bad {
             code: MISSING_AVP,
@@ -126,8 +126,8 @@ fn judge_bounds<'a>(
     }
     match entry.max {
         Some(max) => {
-            if max > 0 && counts_more_than(tables, rule, at, max, counter, list) {
-                let failed = first_past_max(tables, rule, at, max, list);
+            if max > 0 && entry_counts_more_than(tables, rule, at, max, counter, list) {
+                let failed = first_avp_past_max(tables, rule, at, max, list);
                 return Judged::Bad {
                     code: AVP_OCCURS_TOO_MANY_TIMES,
                     failed,
@@ -178,7 +178,7 @@ pub(crate) fn are_bounds_kept(rule: LinkedRule<'_>, counts: &[u16]) -> bool
 {
     let bounds = rule.links.bounds();
     if bounds.len() <= counts.len() {
-        bounds.hold(counts)
+        bounds.are_kept_by(counts)
     } else {
         rule.entries.as_slice().len() <= counts.len() && are_within_bounds(rule.entries, counts)
     }
@@ -204,6 +204,6 @@ pub(crate) fn judge_entry<'a>(
     if is_within_bounds(&rule.entries.as_slice()[at], counter) {
         Judged::Good
     } else {
-        judge_bounds(tables, rule, at, counter, list)
+        judge_entry_by_bounds(tables, rule, at, counter, list)
     }
 }

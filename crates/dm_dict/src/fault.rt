@@ -1,4 +1,4 @@
-//! Faults of messages.
+//! A fault of a message, where it lies (RFC 6733, 7).
 ghost use Rattle.std.specs.Prelude.{◌≡◌, false};
 ghost use Rattle.dm_dict.specs.Found.{is_missing_found};
 

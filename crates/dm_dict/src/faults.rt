@@ -11,9 +11,9 @@ ghost use Rattle.dm_dict.specs.Listing.{all_told, AreFoundIn};
 use crate::fault::Fault;
 use crate::findings::Findings;
 use crate::linked::Linked;
-use crate::located_faults::find_faults;
+use crate::located_faults::add_message_faults_if_bad;
 use crate::{Dictionary, NoMemory};
-use dm_wire::laws::members_spell;
+use dm_wire::laws::members_are_what_octets_spell;
 use dm_wire::{AvpsRef, Header, Message, MessageRef};
 use std::alloc::Global;
 
@@ -31,14 +31,14 @@ fn collect_faults<'a>(
         → has_none (faults (defined dictionary.now.tables) (record { header = header.now; avps = l })) ≡ false) }
 {
     let mut findings = Findings::new(alloc);
-    let done = find_faults(alloc, &mut findings, None, dictionary, header, list);
+    let done = add_message_faults_if_bad(alloc, &mut findings, None, dictionary, header, list);
     let Findings { faults, located } = findings;
     drop(located);
     done.and(Ok(faults))
 }
 
 /// All faults of a message of this header, whose AVPs the octets spell, in order.
-fn faults_of_spelled<'a>(
+fn faults_of_spelled_message<'a>(
     alloc: Global,
     dictionary: &Linked,
     header: &Header,
@@ -50,7 +50,7 @@ fn faults_of_spelled<'a>(
     ensures memory { OnErr result ((l : List Avp) → SpellsList l octets.now
         → has_none (faults (defined dictionary.now.tables) (record { header = header.now; avps = l })) ≡ false) }
 {
-    members_spell();
+    members_are_what_octets_spell();
     collect_faults(alloc, dictionary, header, AvpsRef::Spelled(octets))
 }
 
@@ -93,6 +93,6 @@ impl Dictionary {
         ensures memory { OnErr result ((l : List Avp) → SpellsList l message.now.rest.now
             → has_none (faults self.now (record { header = message.now.header; avps = l })) ≡ false) }
     {
-        faults_of_spelled(alloc, &self.linked, &message.header, message.rest)
+        faults_of_spelled_message(alloc, &self.linked, &message.header, message.rest)
     }
 }

@@ -14,7 +14,7 @@ use crate::codes::{COMMAND_UNSUPPORTED, INVALID_HDR_BITS};
 use crate::judged::{Failed, Judged};
 use crate::linked::{Linked, LinkedCommand, LinkedRule};
 use crate::message_avps::judge_message_avps;
-use dm_wire::laws::members_spell;
+use dm_wire::laws::members_are_what_octets_spell;
 use dm_wire::{AvpsRef, Header};
 use std::alloc::Global;
 
@@ -23,7 +23,10 @@ pub(crate) const GROUPS: u32 = 8;
 
 /// The command whose rule a message of this header has, if it is defined. All answers that report an error have one
 /// rule, that of command 0 with ERR.
-pub(crate) fn command_for<'d>(dictionary: &'d Linked, header: &Header) -> Option<LinkedCommand<'d>>
+pub(crate) fn command_for_header<'d>(
+    dictionary: &'d Linked,
+    header: &Header,
+) -> Option<LinkedCommand<'d>>
     requires { IsLinked dictionary.now }
     ensures def { option_map (λ command. command.def.now) result
         ≡ command_for (defined dictionary.now.tables) header.now }
@@ -32,7 +35,7 @@ pub(crate) fn command_for<'d>(dictionary: &'d Linked, header: &Header) -> Option
 {
     let error_answer = !header.request && header.error;
     let code = if error_answer { 0 } else { header.command };
-    dictionary.command(code, header.request, error_answer)
+    dictionary.linked_command(code, header.request, error_answer)
 }
 
 /// The first fault of a message of this header and these AVPs, whose AVPs are counted in memory under a long rule,
@@ -50,13 +53,13 @@ pub(crate) fn judge_message<'a>(
     ensures missing { finds_missing result ≡ false }
 {
     let failed = Failed::Nothing;
-    let Some(LinkedCommand { def, links }) = command_for(dictionary, header) else {
+    let Some(LinkedCommand { def, links }) = command_for_header(dictionary, header) else {
         return Judged::Bad {
             code: COMMAND_UNSUPPORTED,
             failed,
         };
     };
-    if has_wrong_bits(header) {
+    if has_wrong_e_or_t_bit(header) {
         return Judged::Bad {
             code: INVALID_HDR_BITS,
             failed,
@@ -70,7 +73,7 @@ pub(crate) fn judge_message<'a>(
 }
 
 /// Whether nothing is wrong with a message of this header and these AVPs. It never answers want of memory.
-pub(crate) fn is_good(
+pub(crate) fn is_message_good(
     alloc: Global,
     dictionary: &Linked,
     header: &Header,
@@ -87,7 +90,7 @@ pub(crate) fn is_good(
 }
 
 /// The first fault of a message of this header, whose AVPs the octets spell. It takes no memory.
-pub(crate) fn judge_spelled<'a>(
+pub(crate) fn judge_spelled_message<'a>(
     dictionary: &Linked,
     header: &Header,
     octets: &'a [u8],
@@ -97,12 +100,12 @@ pub(crate) fn judge_spelled<'a>(
         → shown result ≡ first (faults (defined dictionary.now.tables) (record { header = header.now; avps = l })) }
     ensures missing { finds_missing result ≡ false }
 {
-    members_spell();
+    members_are_what_octets_spell();
     judge_message(dictionary, header, AvpsRef::Spelled(octets), None)
 }
 
 /// Whether the E bit is set in a request, or the T bit in an answer.
-pub(crate) fn has_wrong_bits(header: &Header) -> bool
+pub(crate) fn has_wrong_e_or_t_bit(header: &Header) -> bool
     ensures { result ≡ wrong_bits header.now }
 {
     (header.request && header.error) || (!header.request && header.retransmit)

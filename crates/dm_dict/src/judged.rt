@@ -1,4 +1,4 @@
-//! What was found first, without a copy of it.
+//! What a dictionary says of a message that it doesn't copy: good, or its first fault (RFC 6733, 7).
 ghost use Rattle.std.specs.Prelude.{◌≡◌, IfOk, OnErr, IsSome, IsSomeAnd};
 ghost use Rattle.dm_dict.specs.Judgement.{failed_of, shown, verdict_of};
 

@@ -12,7 +12,7 @@ ghost use Rattle.dm_dict.specs.Links.{rule_links};
 ghost use Rattle.dm_dict.specs.Marks.{AreMarked};
 ghost use Rattle.dm_dict.specs.Linked.{IsLinked, avp_links, command_links};
 
-use crate::command_guesses::{has_head, head_guesses, head_slot};
+use crate::command_guesses::{command_slot, guesses_of_commands, is_command_of};
 use crate::links::Links;
 use crate::marks::code_marks;
 use crate::rule_links::RuleLinks;
@@ -92,7 +92,7 @@ fn link_avps(
 {
     links.reserve(tables.avps.as_slice())?;
     for def in tables.avps.as_slice() {
-        links.push(alloc, tables, guesses, &def.rule)?;
+        links.push_links_of_rule(alloc, tables, guesses, &def.rule)?;
     }
     Ok(())
 }
@@ -126,7 +126,7 @@ impl Linked {
             avps: RuleLinks::new(alloc),
             commands: Vec::new(alloc),
             marks: [0; 512],
-            heads: head_guesses(&[]),
+            heads: guesses_of_commands(&[]),
         }
     }
 
@@ -137,7 +137,7 @@ impl Linked {
         ensures linked { IfOk result IsLinked }
     {
         let marks = code_marks(tables.avps.as_slice());
-        let heads = head_guesses(tables.commands.as_slice());
+        let heads = guesses_of_commands(tables.commands.as_slice());
         let mut linked = Linked {
             tables,
             avps: RuleLinks::new(alloc),
@@ -145,12 +145,12 @@ impl Linked {
             marks,
             heads,
         };
-        let done = linked.link(alloc);
+        let done = linked.link_rules(alloc);
         done.and(Ok(linked))
     }
 
     /// Links the tables, where there are no links.
-    fn link(&mut self, alloc: Global) -> Result<(), NoMemory>
+    fn link_rules(&mut self, alloc: Global) -> Result<(), NoMemory>
         requires dictionary { IsDictionary self.old.tables }
         requires avps { self.old.avps ≡ [] }
         requires commands { self.old.commands.items ≡ [] }
@@ -159,13 +159,17 @@ impl Linked {
         ensures linked { OnOk result (IsLinked self.new) }
     {
         let guesses = NameGuesses::of_avps(alloc, self.tables.avps.as_slice())?;
-        let done = self.link_with_guesses(alloc, &guesses);
+        let done = self.link_rules_with_guesses(alloc, &guesses);
         drop(guesses);
         done
     }
 
     /// Links the tables, where there are no links, by these guesses of where names are defined.
-    fn link_with_guesses(&mut self, alloc: Global, guesses: &NameGuesses) -> Result<(), NoMemory>
+    fn link_rules_with_guesses(
+        &mut self,
+        alloc: Global,
+        guesses: &NameGuesses,
+    ) -> Result<(), NoMemory>
         requires dictionary { IsDictionary self.old.tables }
         requires guesses { AreGuessed self.old.tables.avps.items guesses.now.places.items }
         requires avps { self.old.avps ≡ [] }
@@ -180,7 +184,7 @@ impl Linked {
 
     /// Whether no definition's code has the lowest bits of this one, so that it has no definition.
     #[inline(always)]
-    pub(crate) fn is_unmarked(&self, code: u32) -> bool
+    pub(crate) fn is_code_unmarked(&self, code: u32) -> bool
         requires { IsLinked self.now }
         ensures mark { result ≡ nat_eq (slice_index self.now.marks (code % 512)) 0 }
         ensures none { result ≡ true → (vendor : Option ℕ)
@@ -192,17 +196,17 @@ impl Linked {
     /// The place of the AVP of a code and vendor. Where no definition's code has its lowest bits, or the first one that
     /// has them is it, it is known at once.
     #[inline(always)]
-    pub(crate) fn place_by_code(&self, code: u32, vendor: Option<u32>) -> Option<usize>
+    pub(crate) fn avp_place_by_code(&self, code: u32, vendor: Option<u32>) -> Option<usize>
         requires { IsLinked self.now }
         ensures { result ≡ position_from (is_coded code vendor) 0 self.now.tables.avps.items }
     {
-        if self.is_unmarked(code) {
+        if self.is_code_unmarked(code) {
             return None;
         }
         let first = usize::from(self.marks[(code % 512) as usize]) - 1;
-        match self.tables.place_if_coded(first, code, vendor) {
+        match self.tables.avp_place_if_code_matches(first, code, vendor) {
             Some(place) => Some(place),
-            None => self.tables.place_by_code(code, vendor),
+            None => self.tables.avp_place_by_code(code, vendor),
         }
     }
 
@@ -211,7 +215,7 @@ impl Linked {
         requires { IsLinked self.now }
         ensures { option_copied result ≡ find (is_coded code vendor) self.now.tables.avps.items }
     {
-        self.avp_def_at(self.place_by_code(code, vendor))
+        self.avp_def_at(self.avp_place_by_code(code, vendor))
     }
 
     /// The AVP at the place, where there is one.
@@ -247,7 +251,7 @@ impl Linked {
     }
 
     /// The definition of an AVP at the place, with the links of its rule.
-    pub(crate) fn avp_at(&self, place: Option<usize>) -> Option<LinkedAvp<'_>>
+    pub(crate) fn linked_avp_at(&self, place: Option<usize>) -> Option<LinkedAvp<'_>>
         requires { IsLinked self.now }
         ensures def { option_map (λ avp. avp.def.now) result
             ≡ option_and_then (slice_get self.now.tables.avps.items) place }
@@ -266,7 +270,7 @@ impl Linked {
     /// True only where the command at the place is the first that has the code with REQ and ERR. Where there is none at
     /// the place the answer is no.
     #[inline(always)]
-    fn has_head_at(&self, place: usize, code: u32, request: bool, err: bool) -> bool
+    fn has_command_at(&self, place: usize, code: u32, request: bool, err: bool) -> bool
         requires { IsLinked self.now }
         ensures { result ≡ true
             → Some place ≡ position_from (is_headed code request err) 0 self.now.tables.commands.items }
@@ -275,7 +279,7 @@ impl Linked {
         if place >= commands.len() {
             return false;
         }
-        has_head(&commands[place], code, request, err)
+        is_command_of(&commands[place], code, request, err)
     }
 
     /// The place of the command of a code with REQ and ERR. Where it is the one that is guessed it's known at once.
@@ -284,8 +288,8 @@ impl Linked {
         requires { IsLinked self.now }
         ensures { result ≡ position_from (is_headed code request err) 0 self.now.tables.commands.items }
     {
-        let place = usize::from(self.heads[head_slot(code, request)]);
-        if self.has_head_at(place, code, request, err) {
+        let place = usize::from(self.heads[command_slot(code, request)]);
+        if self.has_command_at(place, code, request, err) {
             Some(place)
         } else {
             self.tables.command_place(code, request, err)
@@ -293,18 +297,23 @@ impl Linked {
     }
 
     /// The command of a code with REQ and ERR, with the links of its rule.
-    pub(crate) fn command(&self, code: u32, request: bool, err: bool) -> Option<LinkedCommand<'_>>
+    pub(crate) fn linked_command(
+        &self,
+        code: u32,
+        request: bool,
+        err: bool,
+    ) -> Option<LinkedCommand<'_>>
         requires { IsLinked self.now }
         ensures def { option_map (λ command. command.def.now) result
             ≡ find (is_headed code request err) self.now.tables.commands.items }
         ensures links { IfSome result (λ command. command.links.now
             ≡ rule_links self.now.tables.avps.items command.def.now.rule) }
     {
-        self.command_at(self.command_place(code, request, err))
+        self.linked_command_at(self.command_place(code, request, err))
     }
 
     /// The definition of a command at the place, with the links of its rule.
-    fn command_at(&self, place: Option<usize>) -> Option<LinkedCommand<'_>>
+    fn linked_command_at(&self, place: Option<usize>) -> Option<LinkedCommand<'_>>
         requires { IsLinked self.now }
         ensures def { option_map (λ command. command.def.now) result
             ≡ option_and_then (slice_get self.now.tables.commands.items) place }

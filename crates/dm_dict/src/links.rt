@@ -11,7 +11,7 @@ ghost use Rattle.dm_dict.specs.Limits.{short_rule};
 ghost use Rattle.dm_dict.specs.Rows.{has_link, names_avps};
 
 use crate::bounds::Bounds;
-use crate::rows::{Row, rows_of};
+use crate::rows::{Row, rows_of_rule};
 use crate::seats::{CROWDED, seats_of};
 use dm_tables::{NameGuesses, Rule, Tables};
 use dm_value::NoMemory;
@@ -53,7 +53,7 @@ impl Debug for LinksShown<'_> {
     fn fmt<W: Write>(&self, f: &mut Formatter<W>) -> fmt::Result {
         let mut list = f.debug_list();
         for row in self.0 {
-            let _ = list.entry(&row.link());
+            let _ = list.entry(&row.linked_place());
         }
         list.finish()
     }
@@ -92,7 +92,7 @@ impl Debug for Links {
 const SHORT_RULE: usize = 16;
 
 /// Notes the place of the link, if there is one, unless one is noted.
-fn note_place(
+fn note_first_place(
     places: &mut IndexMap<usize, usize>,
     link: Option<usize>,
     place: usize,
@@ -111,37 +111,40 @@ fn note_place(
 }
 
 /// The places of the links of the rows: of each the first.
-fn first_places(alloc: Global, rows: &[Row]) -> Result<IndexMap<usize, usize>, NoMemory>
+fn first_place_of_each_link(alloc: Global, rows: &[Row]) -> Result<IndexMap<usize, usize>, NoMemory>
     ensures { IfOk result (λ places. (k : ℕ)
         → get_by (nat_eq k) places ≡ position_from (has_link (Some k)) 0 rows.now) }
 {
     let mut places = IndexMap::new(alloc);
     places.reserve(rows.len())?;
     for (place, row) in rows.iter().enumerate() {
-        note_place(&mut places, row.link(), place)?;
+        note_first_place(&mut places, row.linked_place(), place)?;
     }
     Ok(places)
 }
 
 /// The places of the links of a long rule. Those of a short one aren't wanted.
-fn long_rule_places(alloc: Global, rows: &[Row]) -> Result<IndexMap<usize, usize>, NoMemory>
+fn first_places_if_long_rule(
+    alloc: Global,
+    rows: &[Row],
+) -> Result<IndexMap<usize, usize>, NoMemory>
     ensures { IfOk result (λ places. short_rule < length rows.now → (k : ℕ)
         → get_by (nat_eq k) places ≡ position_from (has_link (Some k)) 0 rows.now) }
 {
     if rows.len() <= SHORT_RULE {
         Ok(IndexMap::new(alloc))
     } else {
-        first_places(alloc, rows)
+        first_place_of_each_link(alloc, rows)
     }
 }
 
 /// The place of the first of the rows that has this link, one after the other.
 #[inline(always)]
-fn place_among(rows: &[Row], link: Option<usize>) -> Option<usize>
+fn first_place_of_link(rows: &[Row], link: Option<usize>) -> Option<usize>
     ensures { result ≡ position_from (has_link link) 0 rows.now }
 {
     for (place, row) in rows.iter().enumerate() {
-        if link == row.link() {
+        if link == row.linked_place() {
             return Some(place);
         }
     }
@@ -166,8 +169,8 @@ impl Links {
     fn new(alloc: Global, items: Vec<Row>, bounds: Bounds) -> Result<Links, NoMemory>
         ensures { IfOk result (λ linked. linked ≡ record { rows = items.items; bounds = bounds }) }
     {
-        let places = long_rule_places(alloc, items.as_slice())?;
-        let any = place_among(items.as_slice(), None);
+        let places = first_places_if_long_rule(alloc, items.as_slice())?;
+        let any = first_place_of_link(items.as_slice(), None);
         let seats = seats_of(items.as_slice());
         Ok(Links {
             items,
@@ -189,7 +192,7 @@ impl Links {
         requires guesses { AreGuessed tables.now.avps.items guesses.now.places.items }
         ensures { IfOk result (λ links. links ≡ rule_links tables.now.avps.items rule.now) }
     {
-        let items = rows_of(alloc, tables, guesses, rule)?;
+        let items = rows_of_rule(alloc, tables, guesses, rule)?;
         let bounds = Bounds::of_rule(alloc, rule)?;
         Links::new(alloc, items, bounds)
     }
@@ -203,11 +206,11 @@ impl Links {
     }
 
     /// The place of the first entry that has the link.
-    fn place_of(&self, definition: usize) -> Option<usize>
+    fn linked_entry_place(&self, definition: usize) -> Option<usize>
         ensures { result ≡ position_from (has_link (Some definition)) 0 self.now.rows }
     {
         if self.items.len() <= SHORT_RULE {
-            place_among(self.items.as_slice(), Some(definition))
+            first_place_of_link(self.items.as_slice(), Some(definition))
         } else {
             self.places.get(&definition).copied()
         }
@@ -215,11 +218,11 @@ impl Links {
 
     /// The place of the first entry that has the link, else of the first that has none; found without a seat.
     #[inline(never)]
-    fn place_by_search(&self, definition: usize) -> Option<usize>
+    fn entry_place_by_search(&self, definition: usize) -> Option<usize>
         ensures { result ≡ option_or (position_from (has_link (Some definition)) 0 self.now.rows)
             (position_from (has_link None) 0 self.now.rows) }
     {
-        self.place_of(definition).or(self.any)
+        self.linked_entry_place(definition).or(self.any)
     }
 
     /// The place of the first entry that names the AVPs of this code and vendor, and its row, where the code's seat has
@@ -246,7 +249,12 @@ impl Links {
     /// The place of the first entry that has the link, to the definition of this code and vendor, else of the first
     /// that has none.
     #[inline(always)]
-    pub(crate) fn place(&self, code: u32, vendor: Option<u32>, link: Option<usize>) -> Option<usize>
+    pub(crate) fn entry_place(
+        &self,
+        code: u32,
+        vendor: Option<u32>,
+        link: Option<usize>,
+    ) -> Option<usize>
         ensures { ((k : ℕ) → link ≡ Some k
             → position_from (names_avps code vendor) 0 self.now.rows
             ≡ position_from (has_link (Some k)) 0 self.now.rows)
@@ -261,9 +269,9 @@ impl Links {
             return self.any;
         }
         if seat == CROWDED {
-            return self.place_by_search(definition);
+            return self.entry_place_by_search(definition);
         }
-        if self.items[usize::from(seat)].names_code(code, vendor) {
+        if self.items[usize::from(seat)].names_code_and_vendor(code, vendor) {
             Some(usize::from(seat))
         } else {
             self.any

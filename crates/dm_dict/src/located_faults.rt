@@ -15,13 +15,13 @@ use crate::avp_faults::add_faults_under_rule;
 use crate::codes::{COMMAND_UNSUPPORTED, INVALID_HDR_BITS};
 use crate::fault::Fault;
 use crate::findings::Findings;
-use crate::judge::{GROUPS, command_for, has_wrong_bits, is_good};
+use crate::judge::{GROUPS, command_for_header, has_wrong_e_or_t_bit, is_message_good};
 use crate::judged::Failed;
 use crate::linked::{Linked, LinkedCommand, LinkedRule};
 use crate::located_fault::LocatedFault;
 use crate::path::Path;
 use crate::{Dictionary, NoMemory};
-use dm_wire::laws::members_spell;
+use dm_wire::laws::members_are_what_octets_spell;
 use dm_wire::{AvpsRef, Header, Message, MessageRef};
 use std::alloc::Global;
 
@@ -41,11 +41,11 @@ fn add_message_faults<'a>(
         (located_faults (defined dictionary.now.tables) (record { header = header.now; avps = l }))) }
 {
     let failed = Failed::Nothing;
-    let Some(LinkedCommand { def, links }) = command_for(dictionary, header) else {
+    let Some(LinkedCommand { def, links }) = command_for_header(dictionary, header) else {
         let code = COMMAND_UNSUPPORTED;
         return findings.add_fault(path, Fault { code, failed });
     };
-    if has_wrong_bits(header) {
+    if has_wrong_e_or_t_bit(header) {
         let code = INVALID_HDR_BITS;
         findings.add_fault(path, Fault { code, failed })?;
     }
@@ -58,7 +58,7 @@ fn add_message_faults<'a>(
 
 /// Adds what is wrong with a message of this header and these AVPs, in no groups. It wants memory only where something
 /// is.
-pub(crate) fn find_faults<'a>(
+pub(crate) fn add_message_faults_if_bad<'a>(
     alloc: Global,
     findings: &mut Findings<'a>,
     path: Option<&Path>,
@@ -74,7 +74,7 @@ pub(crate) fn find_faults<'a>(
     ensures memory { OnErr result ((l : List Avp) → Lists list.entry l
         → has_none (faults (defined dictionary.now.tables) (record { header = header.now; avps = l })) ≡ false) }
 {
-    if is_good(alloc, dictionary, header, list) {
+    if is_message_good(alloc, dictionary, header, list) {
         return Ok(());
     }
     add_message_faults(alloc, findings, path, dictionary, header, list)
@@ -96,14 +96,21 @@ fn collect_located_faults<'a>(
 {
     let mut findings = Findings::new(alloc);
     let top = Path::top();
-    let done = find_faults(alloc, &mut findings, Some(&top), dictionary, header, list);
+    let done = add_message_faults_if_bad(
+        alloc,
+        &mut findings,
+        Some(&top),
+        dictionary,
+        header,
+        list,
+    );
     let Findings { faults, located } = findings;
     drop(faults);
     done.and(Ok(located))
 }
 
 /// All faults of a message of this header, whose AVPs the octets spell, with their paths, in order.
-fn located_faults_of_spelled<'a>(
+fn located_faults_of_spelled_message<'a>(
     alloc: Global,
     dictionary: &Linked,
     header: &Header,
@@ -116,7 +123,7 @@ fn located_faults_of_spelled<'a>(
     ensures memory { OnErr result ((l : List Avp) → SpellsList l octets.now
         → has_none (faults (defined dictionary.now.tables) (record { header = header.now; avps = l })) ≡ false) }
 {
-    members_spell();
+    members_are_what_octets_spell();
     collect_located_faults(alloc, dictionary, header, AvpsRef::Spelled(octets))
 }
 
@@ -156,6 +163,6 @@ impl Dictionary {
         ensures memory { OnErr result ((l : List Avp) → SpellsList l message.now.rest.now
             → has_none (faults self.now (record { header = message.now.header; avps = l })) ≡ false) }
     {
-        located_faults_of_spelled(alloc, &self.linked, &message.header, message.rest)
+        located_faults_of_spelled_message(alloc, &self.linked, &message.header, message.rest)
     }
 }

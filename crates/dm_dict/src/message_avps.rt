@@ -12,7 +12,7 @@ ghost use Rattle.dm_dict.specs.Limits.{group_limit};
 ghost use Rattle.dm_dict.specs.Passed.{IsGoodBut, PassesList};
 
 use crate::avps::judge_list_from;
-use crate::counts::{FEW_ENTRIES, MANY_ENTRIES, counters, long_rule_counters};
+use crate::counts::{FEW_ENTRIES, MANY_ENTRIES, zero_counters, zero_counters_if_long_rule};
 use crate::entries::are_bounds_kept;
 use crate::judge::GROUPS;
 use crate::judged::Judged;
@@ -173,14 +173,14 @@ fn judge_avps_on_stack<'a>(
         → shown result ≡ first (list_faults group_limit dictionary.now.tables.avps.items rule.entry.entries.now l) }
     ensures missing { finds_missing result ≡ false }
 {
-    let mut counts = counters::<MANY_ENTRIES>();
+    let mut counts = zero_counters::<MANY_ENTRIES>();
     judge_with_counters(dictionary, rule, list, alloc, &mut counts)
 }
 
 /// The first fault of AVPs under a rule of any length; by a counter for each entry of a long one where there is memory
 /// for that.
 #[inline(never)]
-fn judge_long_rule<'a>(
+fn judge_avps_under_long_rule<'a>(
     dictionary: &Linked,
     rule: LinkedRule<'_>,
     list: AvpsRef<'a>,
@@ -193,7 +193,7 @@ fn judge_long_rule<'a>(
         → shown result ≡ first (list_faults group_limit dictionary.now.tables.avps.items rule.entry.entries.now l) }
     ensures missing { finds_missing result ≡ false }
 {
-    let Some(mut counts) = long_rule_counters(alloc, rule.entries) else {
+    let Some(mut counts) = zero_counters_if_long_rule(alloc, rule.entries) else {
         return judge_avps_on_stack(dictionary, rule, list, alloc);
     };
     let room = counts.as_mut_slice();
@@ -218,8 +218,8 @@ pub(crate) fn judge_message_avps<'a>(
     ensures missing { finds_missing result ≡ false }
 {
     if rule.entries.as_slice().len() > FEW_ENTRIES {
-        return judge_long_rule(dictionary, rule, list, alloc);
+        return judge_avps_under_long_rule(dictionary, rule, list, alloc);
     }
-    let mut counts = counters::<FEW_ENTRIES>();
+    let mut counts = zero_counters::<FEW_ENTRIES>();
     judge_with_counters(dictionary, rule, list, alloc, &mut counts)
 }

@@ -17,7 +17,7 @@ use dm_wire::AvpRef;
 use indexmap::IndexMap;
 
 /// Counts one more of a code and vendor, and tells how many there are.
-fn count_code(
+fn count_code_and_vendor(
     numbers: &mut IndexMap<(u32, Option<u32>), usize>,
     code: u32,
     vendor: Option<u32>,
@@ -42,7 +42,7 @@ fn is_group_at(dictionary: &Linked, place: Option<usize>) -> bool
     ensures { (path : Path) → result
         ≡ is_wanted (Some path) (option_and_then (slice_get dictionary.now.tables.avps.items) place) }
 {
-    match dictionary.avp_at(place) {
+    match dictionary.linked_avp_at(place) {
         Some(avp) => match avp.def.kind {
             AvpType::Grouped => true,
             _ => false,
@@ -76,7 +76,7 @@ pub(crate) fn count_group_occurrence<'a>(
         return Ok(0);
     };
     if is_group_at(dictionary, place) {
-        return count_code(numbers, avp.code, avp.vendor);
+        return count_code_and_vendor(numbers, avp.code, avp.vendor);
     }
     Ok(0)
 }

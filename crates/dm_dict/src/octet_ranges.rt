@@ -52,7 +52,7 @@ fn range_marks(octets: u8x16, least: u8, most: u8) -> u8x16
 
 /// The higher mark of each lane.
 #[inline(always)]
-fn higher_marks(marks: u8x16, others: u8x16) -> u8x16
+fn higher_mark_in_each_lane(marks: u8x16, others: u8x16) -> u8x16
     ensures { is_unmarked result ≡ (is_unmarked marks && is_unmarked others) }
 {
     marks.simd_max(others)
@@ -67,7 +67,7 @@ fn are_marks_zero(marks: u8x16) -> bool
 }
 
 /// Whether all octets of a long text lie between the two, where the first and the last sixteen do.
-fn are_inner_between(octets: &[u8], least: u8, most: u8) -> bool
+fn are_inner_octets_between(octets: &[u8], least: u8, most: u8) -> bool
     requires order { least ≤ most }
     requires long { 16 ≤ length octets.now }
     requires first { list_all (is_in_range least most) (take 16 octets.now) ≡ true }
@@ -93,8 +93,8 @@ fn are_between_by_sixteens(octets: &[u8], least: u8, most: u8) -> bool
 {
     let first = range_marks(u8x16::from_slice(octets), least, most);
     let last = range_marks(u8x16::from_slice(&octets[octets.len() - 16..]), least, most);
-    are_marks_zero(higher_marks(first, last))
-        && (octets.len() <= 32 || are_inner_between(octets, least, most))
+    are_marks_zero(higher_mark_in_each_lane(first, last))
+        && (octets.len() <= 32 || are_inner_octets_between(octets, least, most))
 }
 
 /// Whether all octets are no less than one and no more than another.

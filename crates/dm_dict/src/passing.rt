@@ -19,16 +19,16 @@ ghost use Rattle.dm_tables.specs.declared.def.AvpDef.{AvpDef};
 ghost use Rattle.dm_tables.specs.declared.rule.Entry.{Entry};
 
 use crate::codes::FAILED_AVP;
-use crate::counts::{FEW_ENTRIES, MANY_ENTRIES, count_at_entry, counters};
+use crate::counts::{FEW_ENTRIES, MANY_ENTRIES, count_at_entry, zero_counters};
 use crate::data::passes_data;
 use crate::entries::are_bounds_kept;
 use crate::linked::{Linked, LinkedRule};
 use crate::rows::Row;
-use crate::rules::{allows_at, look_up_by_marks, place_and_entry, row_by_seat};
+use crate::rules::{entry_allows_avps, look_up_avp_by_marks, pair_place_with_entry, row_by_seat};
 use byteorder::{BigEndian, ByteOrder};
 use dm_tables::Rule;
 use dm_value::AvpType;
-use dm_wire::laws::spelled_are_members;
+use dm_wire::laws::spelled_avps_are_members;
 use dm_wire::{AvpRef, first_avp};
 
 /// Whether nothing is wrong with an AVP, whose definition has this place and which stands there under the rule, inside
@@ -59,11 +59,11 @@ fn passes_avp(
     let Some(at) = at else {
         return false;
     };
-    if !allows_at(rule, at) {
+    if !entry_allows_avps(rule, at) {
         return false;
     }
     let kind = dictionary.def_at(place).kind;
-    passes_defined(dictionary, kind, place, avp, depth)
+    passes_defined_avp(dictionary, kind, place, avp, depth)
 }
 
 /// True only where nothing is wrong with octets of the definition at the place, which is that of an Enumerated.
@@ -83,7 +83,7 @@ fn passes_enumerated(dictionary: &Linked, place: usize, octets: &[u8]) -> bool
 /// Failed-AVP, whose data isn't read.
 // (A function of its own in the machine's code too: it's wanted where something else is wrong.)
 #[inline(never)]
-fn is_failed_avp_at(dictionary: &Linked, place: usize) -> bool
+fn has_failed_avp_code_at(dictionary: &Linked, place: usize) -> bool
     requires { place < length dictionary.now.tables.avps.items }
     ensures { (groups : List Entry → Avp → List AFault) (a : Avp) → slice_get dictionary.now.tables.avps.items place
         ≡ definition dictionary.now.tables.avps.items a → result ≡ true
@@ -97,7 +97,7 @@ fn is_failed_avp_at(dictionary: &Linked, place: usize) -> bool
 /// place. Where it isn't seen the answer is no.
 #[cycle(passing)]
 #[inline(always)]
-fn passes_defined(
+fn passes_defined_avp(
     dictionary: &Linked,
     kind: AvpType,
     place: usize,
@@ -119,13 +119,13 @@ fn passes_defined(
             links: dictionary.links_at(place),
         };
         return passes_group(dictionary, rule, avp.bytes, depth)
-            || is_failed_avp_at(dictionary, place);
+            || has_failed_avp_code_at(dictionary, place);
     }
     if let AvpType::Enumerated = kind {
         return passes_enumerated(dictionary, place, avp.bytes)
-            || is_failed_avp_at(dictionary, place);
+            || has_failed_avp_code_at(dictionary, place);
     }
-    passes_data(kind, avp.bytes) || is_failed_avp_at(dictionary, place)
+    passes_data(kind, avp.bytes) || has_failed_avp_code_at(dictionary, place)
 }
 
 /// True only where nothing is wrong with an AVP that stands under the rule at this entry, which has this row; then it
@@ -151,7 +151,7 @@ pub(crate) fn pass_avp_with_row(
     ensures same { result ≡ false → counts.new ≡ counts.old }
 {
     let Row { kind, place, .. } = row;
-    if !passes_defined(dictionary, kind, place, avp, depth) {
+    if !passes_defined_avp(dictionary, kind, place, avp, depth) {
         return false;
     }
     count_at_entry(counts, 0, Some(at));
@@ -174,10 +174,10 @@ pub(crate) fn pass_undefined_avp(
         rule.entry.entries.now (avp_of avp.entry) counts.old counts.new }
     ensures same { result ≡ false → counts.new ≡ counts.old }
 {
-    if avp.mandatory || !dictionary.is_unmarked(avp.code) {
+    if avp.mandatory || !dictionary.is_code_unmarked(avp.code) {
         return false;
     }
-    let (_, any) = place_and_entry(&dictionary.tables, rule, None, avp);
+    let (_, any) = pair_place_with_entry(&dictionary.tables, rule, None, avp);
     count_at_entry(counts, 0, any);
     true
 }
@@ -244,7 +244,7 @@ fn pass_avp_parts(
         protected,
         bytes,
     };
-    let (place, at) = look_up_by_marks(dictionary, rule, avp);
+    let (place, at) = look_up_avp_by_marks(dictionary, rule, avp);
     if !passes_avp(dictionary, rule.entries, place, at, avp, depth) {
         return false;
     }
@@ -262,7 +262,7 @@ fn passes_group(dictionary: &Linked, rule: LinkedRule<'_>, octets: &[u8], depth:
     ensures { (a : Avp) → a.bytes ≡ octets.now → result ≡ true
         → None ≡ first (group_faults depth dictionary.now.tables.avps.items rule.entry.entries.now a) }
 {
-    spelled_are_members();
+    spelled_avps_are_members();
     depth > 0 && passes_members(dictionary, rule, octets, depth - 1)
 }
 
@@ -271,7 +271,7 @@ fn passes_group(dictionary: &Linked, rule: LinkedRule<'_>, octets: &[u8], depth:
 // (A loop of its own, so that what it works with stays in the processor's registers.)
 #[cycle(passing)]
 #[inline(always)]
-fn pass_octets_with_rows<'a>(
+fn pass_spelled_avps_with_rows<'a>(
     dictionary: &Linked,
     rule: LinkedRule<'_>,
     octets: &'a [u8],
@@ -291,7 +291,7 @@ fn pass_octets_with_rows<'a>(
             return Some(left);
         };
         count_at_entry(counts, 0, Some(entry));
-        if !passes_defined(dictionary, row.kind, row.place, avp, depth) {
+        if !passes_defined_avp(dictionary, row.kind, row.place, avp, depth) {
             return None;
         }
         left = &left[size..];
@@ -302,7 +302,7 @@ fn pass_octets_with_rows<'a>(
 /// The octets behind the first AVP, which has no row, if it is seen to be good; it is counted.
 #[cycle(passing)]
 #[inline(always)]
-fn pass_octets_without_row<'a>(
+fn pass_spelled_avp_without_row<'a>(
     dictionary: &Linked,
     rule: LinkedRule<'_>,
     octets: &'a [u8],
@@ -333,7 +333,7 @@ fn pass_octets_without_row<'a>(
 /// then they are counted.
 #[cycle(passing)]
 #[inline(always)]
-fn pass_octets(
+fn pass_spelled_avps(
     dictionary: &Linked,
     rule: LinkedRule<'_>,
     octets: &[u8],
@@ -351,11 +351,12 @@ fn pass_octets(
         × IsCounted dictionary.now.tables.avps.items rule.entry.entries.now l 0 counts.new }
 {
     let mut left = octets;
-    while let Some(behind) = pass_octets_with_rows(dictionary, rule, left, depth, counts) {
+    while let Some(behind) = pass_spelled_avps_with_rows(dictionary, rule, left, depth, counts) {
         if behind.is_empty() {
             return true;
         }
-        let Some(rest) = pass_octets_without_row(dictionary, rule, behind, depth, counts) else {
+        let Some(rest) = pass_spelled_avp_without_row(dictionary, rule, behind, depth, counts)
+        else {
             return false;
         };
         left = rest;
@@ -381,7 +382,7 @@ fn passes_with_counters(
     ensures { result ≡ true → (l : List Avp) × SpellsList l octets.now
         × (None ≡ first (list_faults depth dictionary.now.tables.avps.items rule.entry.entries.now l)) }
 {
-    pass_octets(dictionary, rule, octets, depth, counts) && are_bounds_kept(rule, counts)
+    pass_spelled_avps(dictionary, rule, octets, depth, counts) && are_bounds_kept(rule, counts)
 }
 
 /// True only where the octets are AVPs and nothing is wrong with them under a rule of few entries.
@@ -398,7 +399,7 @@ fn passes_under_few_entries(
     ensures { result ≡ true → (l : List Avp) × SpellsList l octets.now
         × (None ≡ first (list_faults depth dictionary.now.tables.avps.items rule.entry.entries.now l)) }
 {
-    let mut counts = counters::<FEW_ENTRIES>();
+    let mut counts = zero_counters::<FEW_ENTRIES>();
     passes_with_counters(dictionary, rule, octets, depth, &mut counts)
 }
 
@@ -418,7 +419,7 @@ fn passes_under_many_entries(
     ensures { result ≡ true → (l : List Avp) × SpellsList l octets.now
         × (None ≡ first (list_faults depth dictionary.now.tables.avps.items rule.entry.entries.now l)) }
 {
-    let mut counts = counters::<MANY_ENTRIES>();
+    let mut counts = zero_counters::<MANY_ENTRIES>();
     passes_with_counters(dictionary, rule, octets, depth, &mut counts)
 }
 

@@ -28,7 +28,7 @@ pub(crate) struct Row {
 impl Row {
     /// The place of the definition, if the entry is linked.
     #[inline(always)]
-    pub(crate) fn link(&self) -> Option<usize>
+    pub(crate) fn linked_place(&self) -> Option<usize>
         ensures { result ≡ row_link self.now }
     {
         if self.linked { Some(self.place) } else { None }
@@ -36,7 +36,7 @@ impl Row {
 
     /// Whether the AVPs of this code and vendor are those that the entry names.
     #[inline(always)]
-    pub(crate) fn names_code(&self, code: u32, vendor: Option<u32>) -> bool
+    pub(crate) fn names_code_and_vendor(&self, code: u32, vendor: Option<u32>) -> bool
         ensures { result ≡ names_avps code vendor self.now }
     {
         self.linked && code == self.code && vendor == self.vendor
@@ -74,7 +74,7 @@ fn push_row(
 }
 
 /// The rows of the entries of a rule, in order.
-pub(crate) fn rows_of(
+pub(crate) fn rows_of_rule(
     alloc: Global,
     tables: &Tables,
     guesses: &NameGuesses,
@@ -87,7 +87,7 @@ pub(crate) fn rows_of(
     let entries = rule.as_slice();
     let mut rows = Vec::with_capacity(alloc, entries.len())?;
     for entry in entries {
-        let link = tables.place_by_guess(guesses, entry.name.as_slice());
+        let link = tables.avp_place_by_guess(guesses, entry.name.as_slice());
         push_row(&mut rows, tables.avps.as_slice(), entry, link)?;
     }
     Ok(rows)

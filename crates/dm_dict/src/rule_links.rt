@@ -48,7 +48,7 @@ impl Debug for RuleLinks {
 }
 
 /// How many of the AVPs have rules with entries.
-fn count_groups(avps: &[AvpDef]) -> usize
+fn count_rules_with_entries(avps: &[AvpDef]) -> usize
     ensures { result ≤ length avps.now }
 {
     let mut count: usize = 0;
@@ -61,7 +61,7 @@ fn count_groups(avps: &[AvpDef]) -> usize
 }
 
 /// Keeps the links of a rule without entries, where nothing is kept yet.
-fn keep_empty_links(alloc: Global, kept: &mut Vec<Links>) -> Result<(), NoMemory>
+fn keep_empty_links_once(alloc: Global, kept: &mut Vec<Links>) -> Result<(), NoMemory>
     ensures begun { OnOk result (kept.new.items ≡ begun_links kept.old.items) }
     ensures same { OnErr result (kept.new.items ≡ kept.old.items) }
 {
@@ -86,7 +86,8 @@ impl RuleLinks {
     pub(crate) fn reserve(&mut self, avps: &[AvpDef]) -> Result<(), NoMemory>
         ensures { self.new ≡ self.old }
     {
-        self.kept.reserve(count_groups(avps).saturating_add(1))?;
+        self.kept
+            .reserve(count_rules_with_entries(avps).saturating_add(1))?;
         self.places.reserve(avps.len())?;
         Ok(())
     }
@@ -95,7 +96,7 @@ impl RuleLinks {
     fn push_empty_links(&mut self, alloc: Global) -> Result<(), NoMemory>
         ensures { OnOk result (self.new ≡ self.old ++ no_links ∷ []) }
     {
-        keep_empty_links(alloc, &mut self.kept)?;
+        keep_empty_links_once(alloc, &mut self.kept)?;
         self.places.push(0)?;
         Ok(())
     }
@@ -104,14 +105,14 @@ impl RuleLinks {
     fn push_links(&mut self, alloc: Global, links: Links) -> Result<(), NoMemory>
         ensures { OnOk result (self.new ≡ self.old ++ links ∷ []) }
     {
-        keep_empty_links(alloc, &mut self.kept)?;
+        keep_empty_links_once(alloc, &mut self.kept)?;
         self.kept.push(links)?;
         self.places.push(self.kept.len() - 1)?;
         Ok(())
     }
 
     /// Adds the links of one more rule behind the others.
-    pub(crate) fn push(
+    pub(crate) fn push_links_of_rule(
         &mut self,
         alloc: Global,
         tables: &Tables,

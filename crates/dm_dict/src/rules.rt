@@ -1,4 +1,4 @@
-//! Under which entry of a rule an AVP stands (RFC 6733, 3.2).
+//! Under which entry of a rule an AVP stands, and whether it may (RFC 6733, 3.2).
 ghost use Rattle.std.specs.Prelude.{◌≡◌, ◌<◌, ℕ, length, slice_get, slice_index_or, IfSome};
 ghost use Rattle.std.specs.List.{position_from};
 ghost use Rattle.std.specs.Option.{option_and_then};
@@ -18,7 +18,7 @@ use dm_wire::AvpRef;
 
 /// Whether an AVP may stand under the entry at the place: its max isn't 0.
 #[inline(always)]
-pub(crate) fn allows_at(rule: &Rule, at: usize) -> bool
+pub(crate) fn entry_allows_avps(rule: &Rule, at: usize) -> bool
     requires { at < length rule.now }
     ensures { result ≡ allows (slice_get rule.now at) }
 {
@@ -26,11 +26,11 @@ pub(crate) fn allows_at(rule: &Rule, at: usize) -> bool
 }
 
 /// Whether an AVP may stand under the entry: there is one, and its max isn't 0.
-pub(crate) fn allows(rule: &Rule, at: Option<usize>) -> bool
+pub(crate) fn has_entry_allowing_avps(rule: &Rule, at: Option<usize>) -> bool
     ensures { result ≡ allows (option_and_then (slice_get rule.now) at) }
 {
     match at {
-        Some(at) if at < rule.as_slice().len() => allows_at(rule, at),
+        Some(at) if at < rule.as_slice().len() => entry_allows_avps(rule, at),
         _ => false,
     }
 }
@@ -38,7 +38,7 @@ pub(crate) fn allows(rule: &Rule, at: Option<usize>) -> bool
 /// The place of the AVP's definition, and where under the rule the AVP stands: at the entry that is linked to its
 /// definition, else at `AVP`. An AVP without definition stands at `AVP`.
 #[inline(always)]
-pub(crate) fn place_and_entry(
+pub(crate) fn pair_place_with_entry(
     tables: &Tables,
     rule: LinkedRule<'_>,
     place: Option<usize>,
@@ -58,7 +58,7 @@ pub(crate) fn place_and_entry(
     ensures within { IfSome result.0 (λ i. i < length tables.now.avps.items) }
     ensures inside { IfSome result.1 (λ i. i < length rule.entry.entries.now) }
 {
-    let entry = rule.links.place(avp.code, avp.vendor, place);
+    let entry = rule.links.entry_place(avp.code, avp.vendor, place);
     (place, entry)
 }
 
@@ -80,14 +80,14 @@ pub(crate) fn look_up_avp(
         → e ≡ slice_index_or rule.entry.entries.now i e
         → is_at result.1 i ≡ counts rule.entry.entries.now e (definition tables.now.avps.items (avp_of avp.entry)) }
 {
-    let place = tables.place_by_code(avp.code, avp.vendor);
-    place_and_entry(tables, rule, place, avp)
+    let place = tables.avp_place_by_code(avp.code, avp.vendor);
+    pair_place_with_entry(tables, rule, place, avp)
 }
 
 /// Where the definition of the AVP stands among the AVPs, and where under the rule the AVP stands; by the marks of the
 /// codes first.
 #[inline(always)]
-pub(crate) fn look_up_by_marks(
+pub(crate) fn look_up_avp_by_marks(
     dictionary: &Linked,
     rule: LinkedRule<'_>,
     avp: AvpRef<'_>,
@@ -106,8 +106,8 @@ pub(crate) fn look_up_by_marks(
     ensures within { IfSome result.0 (λ i. i < length dictionary.now.tables.avps.items) }
     ensures inside { IfSome result.1 (λ i. i < length rule.entry.entries.now) }
 {
-    let place = dictionary.place_by_code(avp.code, avp.vendor);
-    place_and_entry(&dictionary.tables, rule, place, avp)
+    let place = dictionary.avp_place_by_code(avp.code, avp.vendor);
+    pair_place_with_entry(&dictionary.tables, rule, place, avp)
 }
 
 /// The place of the entry under which the AVP stands, and its row, where it is the one at the seat of its code; else
@@ -131,7 +131,12 @@ pub(crate) fn row_by_seat(
 }
 
 /// Whether the entry at the place counts the AVP.
-pub(crate) fn counts_avp(tables: &Tables, rule: LinkedRule<'_>, at: usize, avp: AvpRef<'_>) -> bool
+pub(crate) fn entry_counts_avp(
+    tables: &Tables,
+    rule: LinkedRule<'_>,
+    at: usize,
+    avp: AvpRef<'_>,
+) -> bool
     requires tables { IsTables tables.now }
     requires fit { IsFit tables.now.avps.items }
     requires rule { IsRule tables.now.avps.items rule }

@@ -12,7 +12,7 @@ const EMPTY: u8 = 255;
 pub(crate) const CROWDED: u8 = 254;
 
 /// The seats where no entry is linked: each is empty.
-fn no_seats() -> [u8; 128]
+fn empty_seats() -> [u8; 128]
     ensures { (i : ℕ) → i < seat_slots → slice_index result i ≡ empty_seat }
 {
     [EMPTY; 128]
@@ -38,7 +38,7 @@ fn note_seat(seats: &mut [u8; 128], row: &Row, place: usize)
 pub(crate) fn seats_of(rows: &[Row]) -> [u8; 128]
     ensures { IsSeated rows.now result }
 {
-    let mut seats = no_seats();
+    let mut seats = empty_seats();
     for (place, row) in rows.iter().enumerate() {
         note_seat(&mut seats, row, place);
     }

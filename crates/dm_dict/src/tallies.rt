@@ -30,7 +30,7 @@ pub(crate) struct Tally<'a> {
 
 impl<'a> Tally<'a> {
     /// The tally of an entry that has counted none.
-    fn at_start(entry: &Entry) -> Tally<'a>
+    fn before_counting(entry: &Entry) -> Tally<'a>
         ensures { (l : List Avp) → IsTally entry.now l l result }
     {
         Tally {
@@ -62,7 +62,7 @@ fn empty_tallies<'a>(alloc: Global, rule: &Rule) -> Result<Vec<Tally<'a>>, NoMem
     let entries = rule.as_slice();
     let mut tallies = Vec::with_capacity(alloc, entries.len())?;
     for entry in entries {
-        tallies.push(Tally::at_start(entry))?;
+        tallies.push(Tally::before_counting(entry))?;
     }
     Ok(tallies)
 }

@@ -1,4 +1,4 @@
-//! Verdicts.
+//! Verdicts: what a dictionary says of a message, with a copy of the failed AVP (RFC 6733, 7).
 use dm_wire::Avp;
 
 /// What a dictionary says of a message: good, or its first fault (RFC 6733, 7).

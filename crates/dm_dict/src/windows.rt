@@ -17,7 +17,7 @@ ghost use Rattle.dm_dict.specs.Judgement.{shown};
 ghost use Rattle.dm_dict.specs.Limits.{middle_window, window};
 
 use crate::counts::{
-    MANY_ENTRIES, MIDDLE_WINDOW, SHORT_WINDOW, WINDOW, count_at_entries_from, counters,
+    MANY_ENTRIES, MIDDLE_WINDOW, SHORT_WINDOW, WINDOW, count_at_entries_from, zero_counters,
 };
 use crate::entries::judge_entry;
 use crate::judged::Judged;
@@ -36,7 +36,7 @@ fn is_bounded(entry: &Entry) -> bool
 }
 
 /// The place of the next entry from `from` on that has a bound, or the end of the rule.
-fn next_bounded(rule: &Rule, from: usize) -> usize
+fn next_bounded_entry(rule: &Rule, from: usize) -> usize
     ensures above { from ≤ result }
     ensures bounded { (e : Entry) → result < length rule.now → e ≡ slice_index_or rule.now result e
         → is_bounded e ≡ true }
@@ -97,7 +97,7 @@ fn judge_window<'a>(
 
 /// The first fault of the entries from `from` on that have these counters, all zero, for which all AVPs are looked up
 /// once more.
-fn judge_recounted<'a>(
+fn count_and_judge_window<'a>(
     tables: &Tables,
     rule: LinkedRule<'_>,
     from: usize,
@@ -141,8 +141,8 @@ fn judge_sized_window<'a, const SIZE: usize>(
         (drop (from + SIZE) rule.entry.entries.now))) }
     ensures missing { finds_missing result ≡ false }
 {
-    let mut counts = counters::<SIZE>();
-    judge_recounted(tables, rule, from, &mut counts, list)
+    let mut counts = zero_counters::<SIZE>();
+    count_and_judge_window(tables, rule, from, &mut counts, list)
 }
 
 /// The first fault of the last entries, those from `from` on, where they are no more than so many.
@@ -211,13 +211,13 @@ fn judge_entries_from<'a>(
     ensures missing { finds_missing result ≡ false }
 {
     let size = rule.entries.as_slice().len();
-    let mut from = next_bounded(rule.entries, start);
+    let mut from = next_bounded_entry(rule.entries, start);
     while from < size && size - from > MIDDLE_WINDOW {
         match judge_sized_window::<WINDOW>(tables, rule, from, list) {
             Judged::Good => {}
             Judged::Bad { code, failed } => return Judged::Bad { code, failed },
         }
-        from = next_bounded(rule.entries, window_end(size, from, WINDOW));
+        from = next_bounded_entry(rule.entries, window_end(size, from, WINDOW));
     }
     if from < size {
         judge_last_entries(tables, rule, from, list)

@@ -5,11 +5,11 @@ ghost use Rattle.dm_dict_text.specs.Meaning.{number, plain_min, starred_min, low
 ghost use Rattle.dm_dict_text.specs.Faults.{first_dict_fault, option_faults, above_faults, bound_faults};
 
 use crate::DictFault;
-use crate::number::number;
+use crate::number::number_of_word;
 use dm_grammar::{EntryItem, Form, Token};
 
 /// The least number of an entry of this form without a qualifier.
-fn plain_min(form: Form) -> u32
+fn min_without_qualifier(form: Form) -> u32
     ensures { result ≡ plain_min form }
 {
     match form {
@@ -19,7 +19,7 @@ fn plain_min(form: Form) -> u32
 }
 
 /// The least number of an entry of this form whose qualifier tells none.
-fn starred_min(form: Form) -> u32
+fn default_qualifier_min(form: Form) -> u32
     ensures { result ≡ starred_min form }
 {
     match form {
@@ -36,8 +36,8 @@ fn qualifier_min(form: Form, word: Option<Token<'_>>) -> Result<u32, DictFault>
     ensures fault { IfErr result (λ f. first_dict_fault (option_faults u32.MAX (view_option word.entry)) ≡ Some f) }
 {
     match word {
-        Some(word) => number(word, u32::MAX),
-        None => Ok(starred_min(form)),
+        Some(word) => number_of_word(word, u32::MAX),
+        None => Ok(default_qualifier_min(form)),
     }
 }
 
@@ -51,7 +51,7 @@ fn qualifier_max(min: u32, word: Option<Token<'_>>) -> Result<Option<u32>, DictF
     let Some(word) = word else {
         return Ok(None);
     };
-    let max = number(word, u32::MAX)?;
+    let max = number_of_word(word, u32::MAX)?;
     if max < min {
         Err(DictFault::Range(word.line))
     } else {
@@ -72,6 +72,6 @@ pub fn entry_bounds(item: &EntryItem<'_>) -> Result<(u32, Option<u32>), DictFaul
             let max = qualifier_max(min, qualifier.high)?;
             Ok((min, max))
         }
-        None => Ok((plain_min(item.form), Some(1))),
+        None => Ok((min_without_qualifier(item.form), Some(1))),
     }
 }

@@ -11,7 +11,7 @@ ghost use Rattle.dm_dict_text.specs.Faults.{first_dict_fault, is_defined, is_tak
 ghost use Rattle.dm_dict_text.specs.Faults.{reference_faults, name_faults, code_faults, title_faults, head_faults};
 
 use crate::DictFault;
-use crate::number::{number, optional_number};
+use crate::number::{number_of_optional_word, number_of_word};
 use dm_grammar::{CommandItem, Token, VendorItem, VendorWord};
 use dm_tables::{NameGuesses, Tables};
 use indexmap::IndexSet;
@@ -30,7 +30,7 @@ pub fn check_vendor(tables: &Tables, item: &VendorItem<'_>) -> Result<u32, DictF
     if tables.vendors.has_name(item.name.text) {
         return Err(DictFault::Duplicate(item.name.line));
     }
-    let number = number(item.number, u32::MAX)?;
+    let number = number_of_word(item.number, u32::MAX)?;
     if tables.vendors.has_number(number) {
         return Err(DictFault::Duplicate(item.number.line));
     }
@@ -55,7 +55,7 @@ pub fn is_avp_defined(
     requires guesses { AreGuessed tables.now.avps.items guesses.now.places.items }
     ensures { result ≡ is_defined (making tables.now strays.now) name.now }
 {
-    tables.has_name_by_guess(guesses, name) || is_stray(strays, name)
+    tables.has_avp_named_by_guess(guesses, name) || is_stray(strays, name)
 }
 
 /// Checks the name of an AVP, which must be new and not `AVP`; or gives its first fault.
@@ -79,7 +79,7 @@ pub fn check_avp_name(
 }
 
 /// The vendor that is written, if any; None where it is a name that no vendor has.
-fn vendor_of_word(
+fn vendor_number_of_word(
     tables: &Tables,
     word: Option<VendorWord<'_>>,
 ) -> Result<Option<Option<u32>>, DictFault>
@@ -92,7 +92,7 @@ fn vendor_of_word(
 {
     match word {
         None => Ok(Some(None)),
-        Some(VendorWord::Numbered(word)) => Ok(Some(Some(number(word, u32::MAX)?))),
+        Some(VendorWord::Numbered(word)) => Ok(Some(Some(number_of_word(word, u32::MAX)?))),
         Some(VendorWord::Named(word)) => match tables.vendors.number_of(word.text) {
             Some(number) => Ok(Some(Some(number))),
             None => Ok(None),
@@ -106,7 +106,7 @@ fn is_code_taken(tables: &Tables, code: u32, vendor: Option<Option<u32>>) -> boo
     ensures { result ≡ is_taken tables.now.avps.items code vendor }
 {
     match vendor {
-        Some(vendor) => tables.has_code(code, vendor),
+        Some(vendor) => tables.has_avp_of_code(code, vendor),
         None => false,
     }
 }
@@ -128,8 +128,8 @@ pub fn check_avp_code(
         (code_faults (defined tables.now) (view_word code.entry) (view_reference_option vendor.entry)) ≡ Some f) }
 {
     let line = code.line;
-    let code = number(code, u32::MAX)?;
-    match vendor_of_word(tables, vendor) {
+    let code = number_of_word(code, u32::MAX)?;
+    match vendor_number_of_word(tables, vendor) {
         Ok(vendor) => {
             if is_code_taken(tables, code, vendor) {
                 Err(DictFault::Duplicate(line))
@@ -148,7 +148,7 @@ pub fn check_command_name(tables: &Tables, word: Token<'_>) -> Result<(), DictFa
     ensures fault { IfErr result (λ f. first_dict_fault (title_faults tables.now.commands.items (view_word word.entry))
         ≡ Some f) }
 {
-    if tables.has_title(word.text) {
+    if tables.has_command_named(word.text) {
         Err(DictFault::Duplicate(word.line))
     } else {
         Ok(())
@@ -165,10 +165,10 @@ pub fn check_command_head(tables: &Tables, item: &CommandItem<'_>) -> Result<(u3
     ensures fault { IfErr result (λ f. first_dict_fault (head_faults tables.now.commands.items (view_command item.now))
         ≡ Some f) }
 {
-    let code = number(item.code, COMMAND_LIMIT)?;
-    if tables.has_head(code, item.request, item.error) {
+    let code = number_of_word(item.code, COMMAND_LIMIT)?;
+    if tables.has_command_of_code(code, item.request, item.error) {
         return Err(DictFault::Duplicate(item.code.line));
     }
-    let application = optional_number(item.application, u32::MAX)?;
+    let application = number_of_optional_word(item.application, u32::MAX)?;
     Ok((code, application.unwrap_or(0)))
 }

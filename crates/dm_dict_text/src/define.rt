@@ -21,9 +21,9 @@ use crate::DictFault;
 use crate::checks::{
     check_avp_code, check_avp_name, check_command_head, check_command_name, check_vendor,
 };
-use crate::entries::rule;
+use crate::entries::rule_of_items;
 use crate::kind::type_named;
-use crate::value_list::value_list;
+use crate::value_list::value_list_of_items;
 use dm_grammar::{AvpItem, CommandItem, GroupItem, Item, VendorItem};
 use dm_tables::{AvpDef, CommandDef, NameGuesses, Rule, Tables, Values, VendorDef};
 use dm_value::AvpType;
@@ -74,7 +74,7 @@ fn add_avp_or_stray<'a>(
 {
     match vendor {
         Some(_) => {
-            guesses.note(name, tables.avps.as_slice().len());
+            guesses.note_name(name, tables.avps.as_slice().len());
             tables.add_avp(alloc, avp)?;
         }
         None => {
@@ -107,7 +107,7 @@ fn define_avp<'a>(
     check_avp_name(tables, guesses, strays, item.name)?;
     let (code, vendor) = check_avp_code(tables, item.code, item.vendor)?;
     let name = Octets::from_slice(alloc, item.name.text)?;
-    let values = value_list(alloc, item.values.as_slice())?;
+    let values = value_list_of_items(alloc, item.values.as_slice())?;
     let avp = AvpDef {
         name,
         code,
@@ -141,7 +141,7 @@ fn define_group<'a>(
     check_avp_name(tables, guesses, strays, item.name)?;
     let (code, vendor) = check_avp_code(tables, item.code, item.vendor)?;
     let name = Octets::from_slice(alloc, item.name.text)?;
-    let rule = rule(alloc, item.rule.as_slice())?;
+    let rule = rule_of_items(alloc, item.rule.as_slice())?;
     let avp = AvpDef {
         name,
         code,
@@ -177,7 +177,7 @@ fn define_command(
         proxiable: item.proxiable,
         err: item.error,
         application,
-        rule: rule(alloc, item.rule.as_slice())?,
+        rule: rule_of_items(alloc, item.rule.as_slice())?,
     };
     tables.add_command(alloc, command)?;
     Ok(())

@@ -159,7 +159,11 @@ impl<'a> Entries<'a> {
 
     /// Adds the entries of the items, in order, where there are none, or gives the first fault; room for them is taken
     /// first.
-    fn add_all_reserved(&mut self, alloc: Global, items: &[EntryItem<'a>]) -> Result<(), DictFault>
+    fn reserve_and_add_all(
+        &mut self,
+        alloc: Global,
+        items: &[EntryItem<'a>],
+    ) -> Result<(), DictFault>
         requires empty { self.old.entries.items ≡ [] }
         requires noted { IsNoted self.old }
         ensures added { OnOk result (self.new.entries.items ≡ fold with_entry [] (map view_entry items.now)) }
@@ -178,13 +182,13 @@ fn entries_of_items(alloc: Global, items: &[EntryItem<'_>]) -> Result<Vec<Entry>
     ensures fault { IfErr result (StopsAtFirst (rule_faults (map view_entry items.now))) }
 {
     let mut rule = Entries::new(alloc, items.len());
-    let done = rule.add_all_reserved(alloc, items);
+    let done = rule.reserve_and_add_all(alloc, items);
     let Entries { entries, .. } = rule;
     done.and(Ok(entries))
 }
 
 /// The rule of the items.
-pub fn rule(alloc: Global, items: &[EntryItem<'_>]) -> Result<Rule, DictFault>
+pub fn rule_of_items(alloc: Global, items: &[EntryItem<'_>]) -> Result<Rule, DictFault>
     ensures value { IfOk result (λ rule. rule ≡ fold with_entry [] (map view_entry items.now)) }
     ensures good { IfOk result (λ _. rule_faults (map view_entry items.now) ≡ []) }
     ensures fault { IfErr result (StopsAtFirst (rule_faults (map view_entry items.now))) }

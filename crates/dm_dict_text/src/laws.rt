@@ -4,49 +4,49 @@ ghost use Rattle.dm_dict_text.specs.FirstOutcome.{DefinesFirstVersion, FaultsOfF
 ghost use Rattle.dm_dict_text.specs.FirstVersion.{PrintsFirstVersion};
 ghost use Rattle.dm_dict_text.specs.OneOutcome.{OneDefinition, OneFault, NoDefinitionRefused, SomeOutcome};
 
-use dm_grammar::{first_version_law, items_law};
+use dm_grammar::{tokens_are_items_or_have_a_fault, unmarked_items_are_first_version};
 
 /// Behind the same old definitions a text defines one whole at most (RFC 6733, 3.2).
-pub fn one_definition()
+pub fn each_text_defines_one_whole_at_most()
     ensures { OneDefinition }
 {
-    items_law();
+    tokens_are_items_or_have_a_fault();
 }
 
 /// One fault at most is a text's first.
-pub fn one_fault()
+pub fn each_text_has_one_first_fault_at_most()
     ensures { OneFault }
 {
-    items_law();
+    tokens_are_items_or_have_a_fault();
 }
 
 /// A text that defines something has no first fault.
-pub fn no_definition_refused()
+pub fn defining_texts_have_no_fault()
     ensures { NoDefinitionRefused }
 {
-    items_law();
+    tokens_are_items_or_have_a_fault();
 }
 
 /// A text defines something or has a first fault. The law stands for users.
-pub fn some_outcome()
+pub fn each_text_defines_or_has_fault()
     ensures { SomeOutcome }
 {
-    items_law();
+    tokens_are_items_or_have_a_fault();
 }
 
 /// Definitions without vendors and lists of values are printed as a text of version 1. The law stands for
 /// users.
-pub fn prints_first_version()
+pub fn plain_definitions_print_first_version()
     ensures { PrintsFirstVersion }
 {}
 
 /// Of a text whose first two tokens aren't `@` and `2` both what it defines and its first fault are those of
 /// version 1, behind any definitions; and behind definitions without vendors and lists of values it makes
 /// none. The law stands for users.
-pub fn reads_first_version()
+pub fn unmarked_texts_read_as_first_version()
     ensures defines { DefinesFirstVersion }
     ensures fault { FaultsOfFirstVersion }
     ensures stays { StaysFirstVersion }
 {
-    first_version_law();
+    unmarked_items_are_first_version();
 }

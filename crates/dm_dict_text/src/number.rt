@@ -24,7 +24,7 @@ fn number_within(digits: &[u8], limit: u32) -> Option<u32>
 }
 
 /// The number of a word, or the fault `Range` where it is above `limit`.
-pub fn number(word: Token<'_>, limit: u32) -> Result<u32, DictFault>
+pub fn number_of_word(word: Token<'_>, limit: u32) -> Result<u32, DictFault>
     ensures value { IfOk result (λ n. n ≡ number (view_word word.entry)) }
     ensures small { IfOk result (λ n. n ≤ limit) }
     ensures good { IfOk result (λ _. range_faults limit (view_word word.entry) ≡ []) }
@@ -37,13 +37,16 @@ pub fn number(word: Token<'_>, limit: u32) -> Result<u32, DictFault>
 }
 
 /// The number of a word that may be missing, or the fault `Range` where it is above `limit`.
-pub fn optional_number(word: Option<Token<'_>>, limit: u32) -> Result<Option<u32>, DictFault>
+pub fn number_of_optional_word(
+    word: Option<Token<'_>>,
+    limit: u32,
+) -> Result<Option<u32>, DictFault>
     ensures value { IfOk result (λ n. n ≡ option_map number (view_option word.entry)) }
     ensures good { IfOk result (λ _. option_faults limit (view_option word.entry) ≡ []) }
     ensures fault { IfErr result (λ f. first_dict_fault (option_faults limit (view_option word.entry)) ≡ Some f) }
 {
     match word {
-        Some(word) => Ok(Some(number(word, limit)?)),
+        Some(word) => Ok(Some(number_of_word(word, limit)?)),
         None => Ok(None),
     }
 }

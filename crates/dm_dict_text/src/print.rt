@@ -15,7 +15,7 @@ use dm_text::push_decimal;
 use dm_value::{AvpType, NoMemory};
 
 /// The name of a type.
-fn type_word(kind: AvpType) -> &'static [u8]
+fn name_of_type(kind: AvpType) -> &'static [u8]
     ensures { result.now ≡ type_name kind }
 {
     match kind {
@@ -35,7 +35,7 @@ fn type_word(kind: AvpType) -> &'static [u8]
 }
 
 /// The brackets of a form, with their spaces.
-fn brackets(form: Form) -> (&'static [u8], &'static [u8])
+fn spaced_brackets(form: Form) -> (&'static [u8], &'static [u8])
     ensures open { result.0.now ≡ opening_bracket form }
     ensures close { result.1.now ≡ closing_bracket form }
 {
@@ -53,7 +53,7 @@ fn push_piece(text: &mut Vec<u8>, piece: &[u8]) -> Result<(), NoMemory>
     Ok(())
 }
 
-fn push_spaced_number(text: &mut Vec<u8>, number: u32) -> Result<(), NoMemory>
+fn push_space_and_number(text: &mut Vec<u8>, number: u32) -> Result<(), NoMemory>
     ensures { OnOk result (text.new.items ≡ text.old.items ++ spaced_number number) }
 {
     push_piece(text, b" ")?;
@@ -61,16 +61,16 @@ fn push_spaced_number(text: &mut Vec<u8>, number: u32) -> Result<(), NoMemory>
     Ok(())
 }
 
-fn push_spaced_option(text: &mut Vec<u8>, number: Option<u32>) -> Result<(), NoMemory>
+fn push_space_and_number_if_some(text: &mut Vec<u8>, number: Option<u32>) -> Result<(), NoMemory>
     ensures { OnOk result (text.new.items ≡ text.old.items ++ spaced_option number) }
 {
     match number {
-        Some(number) => push_spaced_number(text, number),
+        Some(number) => push_space_and_number(text, number),
         None => Ok(()),
     }
 }
 
-fn push_optional_decimal(text: &mut Vec<u8>, number: Option<u32>) -> Result<(), NoMemory>
+fn push_decimal_if_some(text: &mut Vec<u8>, number: Option<u32>) -> Result<(), NoMemory>
     ensures { OnOk result (text.new.items ≡ text.old.items ++ decimal_option number) }
 {
     if let Some(number) = number {
@@ -79,7 +79,7 @@ fn push_optional_decimal(text: &mut Vec<u8>, number: Option<u32>) -> Result<(), 
     Ok(())
 }
 
-fn push_flag(text: &mut Vec<u8>, flag: bool, word: &[u8]) -> Result<(), NoMemory>
+fn push_word_if_set(text: &mut Vec<u8>, flag: bool, word: &[u8]) -> Result<(), NoMemory>
     ensures { OnOk result (text.new.items ≡ text.old.items ++ flag_text flag word.now) }
 {
     if flag { push_piece(text, word) } else { Ok(()) }
@@ -88,10 +88,10 @@ fn push_flag(text: &mut Vec<u8>, flag: bool, word: &[u8]) -> Result<(), NoMemory
 fn push_entry(text: &mut Vec<u8>, entry: &Entry) -> Result<(), NoMemory>
     ensures { OnOk result (text.new.items ≡ text.old.items ++ entry_text entry.now) }
 {
-    let (open, close) = brackets(entry.form);
-    push_spaced_number(text, entry.min)?;
+    let (open, close) = spaced_brackets(entry.form);
+    push_space_and_number(text, entry.min)?;
     push_piece(text, b"*")?;
-    push_optional_decimal(text, entry.max)?;
+    push_decimal_if_some(text, entry.max)?;
     push_piece(text, open)?;
     push_piece(text, entry.name.as_slice())?;
     push_piece(text, close)
@@ -115,11 +115,11 @@ fn push_head_end_and_rule(text: &mut Vec<u8>, rule: &Rule) -> Result<(), NoMemor
     push_piece(text, b"\n")
 }
 
-fn push_type_name(text: &mut Vec<u8>, kind: AvpType) -> Result<(), NoMemory>
+fn push_space_and_type_name(text: &mut Vec<u8>, kind: AvpType) -> Result<(), NoMemory>
     ensures { OnOk result (text.new.items ≡ text.old.items ++ spaced (type_name kind)) }
 {
     push_piece(text, b" ")?;
-    push_piece(text, type_word(kind))
+    push_piece(text, name_of_type(kind))
 }
 
 fn push_value(text: &mut Vec<u8>, value: &EnumValue) -> Result<(), NoMemory>
@@ -127,21 +127,21 @@ fn push_value(text: &mut Vec<u8>, value: &EnumValue) -> Result<(), NoMemory>
 {
     push_piece(text, b" ")?;
     push_piece(text, value.name.as_slice())?;
-    push_spaced_number(text, value.number.unsigned_abs())
+    push_space_and_number(text, value.number.unsigned_abs())
 }
 
-fn push_next_value(text: &mut Vec<u8>, value: &EnumValue) -> Result<(), NoMemory>
+fn push_comma_and_value(text: &mut Vec<u8>, value: &EnumValue) -> Result<(), NoMemory>
     ensures { OnOk result (text.new.items ≡ text.old.items ++ next_value value.now) }
 {
     push_piece(text, b",")?;
     push_value(text, value)
 }
 
-fn push_more_values(text: &mut Vec<u8>, values: &[EnumValue]) -> Result<(), NoMemory>
+fn push_further_values(text: &mut Vec<u8>, values: &[EnumValue]) -> Result<(), NoMemory>
     ensures { OnOk result (text.new.items ≡ text.old.items ++ flat_map next_value values.now) }
 {
     for value in values {
-        push_next_value(text, value)?;
+        push_comma_and_value(text, value)?;
     }
     Ok(())
 }
@@ -155,40 +155,40 @@ fn push_value_list(text: &mut Vec<u8>, values: &[EnumValue]) -> Result<(), NoMem
         [first, more @ ..] => {
             push_piece(text, b" {")?;
             push_value(text, first)?;
-            push_more_values(text, more)?;
+            push_further_values(text, more)?;
             push_piece(text, b" }")
         }
     }
 }
 
 /// What stands behind the code of an AVP that isn't Grouped.
-fn push_plain_avp_end(text: &mut Vec<u8>, avp: &AvpDef) -> Result<(), NoMemory>
+fn push_ungrouped_avp_end(text: &mut Vec<u8>, avp: &AvpDef) -> Result<(), NoMemory>
     ensures { OnOk result (text.new.items ≡ text.old.items ++ plain_end avp.now) }
 {
-    push_type_name(text, avp.kind)?;
-    push_spaced_option(text, avp.vendor)?;
+    push_space_and_type_name(text, avp.kind)?;
+    push_space_and_number_if_some(text, avp.vendor)?;
     push_value_list(text, avp.values.as_slice())?;
     push_piece(text, b"\n")
 }
 
-fn push_plain_avp(text: &mut Vec<u8>, avp: &AvpDef) -> Result<(), NoMemory>
+fn push_ungrouped_avp_line(text: &mut Vec<u8>, avp: &AvpDef) -> Result<(), NoMemory>
     ensures { OnOk result (text.new.items ≡ text.old.items ++ plain_line avp.now) }
 {
     push_piece(text, b"@ ")?;
     push_piece(text, avp.name.as_slice())?;
-    push_spaced_number(text, avp.code)?;
-    push_plain_avp_end(text, avp)
+    push_space_and_number(text, avp.code)?;
+    push_ungrouped_avp_end(text, avp)
 }
 
 fn push_group_head(text: &mut Vec<u8>, avp: &AvpDef) -> Result<(), NoMemory>
     ensures { OnOk result (text.new.items ≡ text.old.items ++ group_head_text avp.now) }
 {
     push_piece(text, b" > ::= < AVP Header:")?;
-    push_spaced_number(text, avp.code)?;
-    push_spaced_option(text, avp.vendor)
+    push_space_and_number(text, avp.code)?;
+    push_space_and_number_if_some(text, avp.vendor)
 }
 
-fn push_group(text: &mut Vec<u8>, avp: &AvpDef) -> Result<(), NoMemory>
+fn push_group_line(text: &mut Vec<u8>, avp: &AvpDef) -> Result<(), NoMemory>
     ensures { OnOk result (text.new.items ≡ text.old.items ++ group_line avp.now) }
 {
     push_piece(text, b"< ")?;
@@ -197,33 +197,33 @@ fn push_group(text: &mut Vec<u8>, avp: &AvpDef) -> Result<(), NoMemory>
     push_head_end_and_rule(text, &avp.rule)
 }
 
-fn push_avp(text: &mut Vec<u8>, avp: &AvpDef) -> Result<(), NoMemory>
+fn push_avp_line(text: &mut Vec<u8>, avp: &AvpDef) -> Result<(), NoMemory>
     ensures { OnOk result (text.new.items ≡ text.old.items ++ avp_line avp.now) }
 {
     match avp.kind {
-        AvpType::Grouped => push_group(text, avp),
-        _ => push_plain_avp(text, avp),
+        AvpType::Grouped => push_group_line(text, avp),
+        _ => push_ungrouped_avp_line(text, avp),
     }
 }
 
 fn push_command_flags(text: &mut Vec<u8>, command: &CommandDef) -> Result<(), NoMemory>
     ensures { OnOk result (text.new.items ≡ text.old.items ++ flags_text command.now) }
 {
-    push_flag(text, command.request, b", REQ")?;
-    push_flag(text, command.proxiable, b", PXY")?;
-    push_flag(text, command.err, b", ERR")
+    push_word_if_set(text, command.request, b", REQ")?;
+    push_word_if_set(text, command.proxiable, b", PXY")?;
+    push_word_if_set(text, command.err, b", ERR")
 }
 
 fn push_command_head(text: &mut Vec<u8>, command: &CommandDef) -> Result<(), NoMemory>
     ensures { OnOk result (text.new.items ≡ text.old.items ++ command_head_text command.now) }
 {
     push_piece(text, b" > ::= < Diameter Header:")?;
-    push_spaced_number(text, command.code)?;
+    push_space_and_number(text, command.code)?;
     push_command_flags(text, command)?;
-    push_spaced_number(text, command.application)
+    push_space_and_number(text, command.application)
 }
 
-fn push_command(text: &mut Vec<u8>, command: &CommandDef) -> Result<(), NoMemory>
+fn push_command_line(text: &mut Vec<u8>, command: &CommandDef) -> Result<(), NoMemory>
     ensures { OnOk result (text.new.items ≡ text.old.items ++ command_line command.now) }
 {
     push_piece(text, b"< ")?;
@@ -233,46 +233,46 @@ fn push_command(text: &mut Vec<u8>, command: &CommandDef) -> Result<(), NoMemory
 }
 
 /// Puts the line of each AVP behind the text.
-fn push_avps(text: &mut Vec<u8>, avps: &[AvpDef]) -> Result<(), NoMemory>
+fn push_avp_lines(text: &mut Vec<u8>, avps: &[AvpDef]) -> Result<(), NoMemory>
     ensures { OnOk result (text.new.items ≡ text.old.items ++ flat_map avp_line avps.now) }
 {
     for avp in avps {
-        push_avp(text, avp)?;
+        push_avp_line(text, avp)?;
     }
     Ok(())
 }
 
 /// Puts the line of each command behind the text.
-fn push_commands(text: &mut Vec<u8>, commands: &[CommandDef]) -> Result<(), NoMemory>
+fn push_command_lines(text: &mut Vec<u8>, commands: &[CommandDef]) -> Result<(), NoMemory>
     ensures { OnOk result (text.new.items ≡ text.old.items ++ flat_map command_line commands.now) }
 {
     for command in commands {
-        push_command(text, command)?;
+        push_command_line(text, command)?;
     }
     Ok(())
 }
 
-fn push_vendor(text: &mut Vec<u8>, vendor: &VendorDef) -> Result<(), NoMemory>
+fn push_vendor_line(text: &mut Vec<u8>, vendor: &VendorDef) -> Result<(), NoMemory>
     ensures { OnOk result (text.new.items ≡ text.old.items ++ vendor_line vendor.now) }
 {
     push_piece(text, b"@ vendor ")?;
     push_piece(text, vendor.name.as_slice())?;
-    push_spaced_number(text, vendor.number)?;
+    push_space_and_number(text, vendor.number)?;
     push_piece(text, b"\n")
 }
 
 /// Puts the line of each vendor behind the text.
-fn push_vendors(text: &mut Vec<u8>, vendors: &[VendorDef]) -> Result<(), NoMemory>
+fn push_vendor_lines(text: &mut Vec<u8>, vendors: &[VendorDef]) -> Result<(), NoMemory>
     ensures { OnOk result (text.new.items ≡ text.old.items ++ flat_map vendor_line vendors.now) }
 {
     for vendor in vendors {
-        push_vendor(text, vendor)?;
+        push_vendor_line(text, vendor)?;
     }
     Ok(())
 }
 
 /// Whether no AVP has a list of values.
-fn has_no_lists(avps: &[AvpDef]) -> bool
+fn has_no_value_lists(avps: &[AvpDef]) -> bool
     ensures { result ≡ list_all (λ a. has_nothing a.values) avps.now }
 {
     for avp in avps {
@@ -284,20 +284,20 @@ fn has_no_lists(avps: &[AvpDef]) -> bool
 }
 
 /// Whether there are no vendors and no lists of values.
-fn is_first_version(tables: &Tables) -> bool
+fn fits_first_version(tables: &Tables) -> bool
     ensures { result ≡ is_first_version (defined tables.now) }
 {
     match tables.vendors.items.as_slice() {
-        [] => has_no_lists(tables.avps.as_slice()),
+        [] => has_no_value_lists(tables.avps.as_slice()),
         _ => false,
     }
 }
 
 /// Puts the line of the version, where a text of version 1 doesn't say it all.
-fn push_version(text: &mut Vec<u8>, tables: &Tables) -> Result<(), NoMemory>
+fn push_version_line_if_second(text: &mut Vec<u8>, tables: &Tables) -> Result<(), NoMemory>
     ensures { OnOk result (text.new.items ≡ text.old.items ++ version_line (defined tables.now)) }
 {
-    if is_first_version(tables) {
+    if fits_first_version(tables) {
         Ok(())
     } else {
         push_piece(text, b"@ 2\n")
@@ -308,8 +308,8 @@ fn push_version(text: &mut Vec<u8>, tables: &Tables) -> Result<(), NoMemory>
 pub fn push_tables(text: &mut Vec<u8>, tables: &Tables) -> Result<(), NoMemory>
     ensures { OnOk result (text.new.items ≡ text.old.items ++ printed (defined tables.now)) }
 {
-    push_version(text, tables)?;
-    push_vendors(text, tables.vendors.items.as_slice())?;
-    push_avps(text, tables.avps.as_slice())?;
-    push_commands(text, tables.commands.as_slice())
+    push_version_line_if_second(text, tables)?;
+    push_vendor_lines(text, tables.vendors.items.as_slice())?;
+    push_avp_lines(text, tables.avps.as_slice())?;
+    push_command_lines(text, tables.commands.as_slice())
 }

@@ -38,7 +38,7 @@ fn avp_and_command_counts(old: &Tables, items: &[Item<'_>]) -> (usize, usize)
 
 /// Adds the definitions of the items to copies of those of the old tables; the names of strays are put into a set
 /// without any.
-fn define_and_check_items<'a>(
+fn define_items_and_check_names<'a>(
     alloc: Global,
     tables: &mut Tables,
     guesses: &mut NameGuesses,
@@ -68,7 +68,7 @@ fn define_and_check_items<'a>(
 
 /// Copies of the definitions of the old tables, in tables without any, with room for so many in all; and the guesses of
 /// their names.
-fn copy_old_tables(
+fn copy_old_tables_with_guesses(
     alloc: Global,
     tables: &mut Tables,
     old: &Tables,
@@ -83,9 +83,9 @@ fn copy_old_tables(
     ensures guesses { IfOk result (λ guesses. AreGuessed tables.new.avps.items guesses.places.items) }
 {
     tables.reserve(avps, commands)?;
-    tables.add_all(alloc, old)?;
+    tables.add_all_copies(alloc, old)?;
     let mut guesses = NameGuesses::new(alloc, avps)?;
-    guesses.note_all(tables.avps.as_slice());
+    guesses.note_names_of_all(tables.avps.as_slice());
     Ok(guesses)
 }
 
@@ -110,8 +110,8 @@ fn add_old_and_new_definitions<'a>(
     ensures fault { IfErr result (StopsAtFirst (all_faults (defined old.now) (map view_item items.now))) }
 {
     let (avps, commands) = avp_and_command_counts(old, items);
-    let mut guesses = copy_old_tables(alloc, tables, old, avps, commands)?;
-    let done = define_and_check_items(alloc, tables, &mut guesses, strays, old, items);
+    let mut guesses = copy_old_tables_with_guesses(alloc, tables, old, avps, commands)?;
+    let done = define_items_and_check_names(alloc, tables, &mut guesses, strays, old, items);
     drop(guesses);
     done
 }

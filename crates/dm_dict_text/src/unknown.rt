@@ -66,7 +66,7 @@ fn unknown_vendor_fault(
         (view_reference_option word.entry)) }
 {
     match word {
-        Some(VendorWord::Named(word)) if !vendors.has_name_among(first, word.text) => {
+        Some(VendorWord::Named(word)) if !vendors.has_name_among_first(first, word.text) => {
             Some(DictFault::UnknownName(word.line))
         }
         _ => None,

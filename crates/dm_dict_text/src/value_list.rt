@@ -9,9 +9,9 @@ ghost use Rattle.dm_dict_text.specs.Meaning.{number};
 ghost use Rattle.dm_dict_text.specs.Faults.{StopsAtFirst, listed_value_faults, with_value, value_list_faults};
 
 use crate::DictFault;
-use crate::number::number;
+use crate::number::number_of_word;
 use dm_grammar::ValueItem;
-use dm_tables::{EnumValue, NoMemory, Values, is_noted, note_number};
+use dm_tables::{EnumValue, NoMemory, Values, is_number_noted, note_number};
 use dm_wire::Octets;
 use indexmap::IndexSet;
 use std::alloc::Global;
@@ -20,7 +20,7 @@ use std::alloc::Global;
 const VALUE_LIMIT: u32 = 2147483647;
 
 /// The number as a signed one.
-fn signed(number: u32) -> i32
+fn as_signed_number(number: u32) -> i32
     requires { number ≤ 2147483647 }
     ensures { result ≡ pos number }
 {
@@ -87,7 +87,7 @@ impl<'a> Listing<'a> {
         ensures { result ≡ list_any (has_number number.now) self.now.values.items }
     {
         if self.is_long {
-            is_noted(&self.numbers, number)
+            is_number_noted(&self.numbers, number)
         } else {
             has_value_numbered(self.values.as_slice(), number)
         }
@@ -123,7 +123,7 @@ impl<'a> Listing<'a> {
         if self.has_name(item.name.text) {
             return Err(DictFault::Duplicate(item.name.line));
         }
-        let number = signed(number(item.number, VALUE_LIMIT)?);
+        let number = as_signed_number(number_of_word(item.number, VALUE_LIMIT)?);
         if self.has_number(&number) {
             return Err(DictFault::Duplicate(item.number.line));
         }
@@ -174,7 +174,7 @@ fn values_of_items(alloc: Global, items: &[ValueItem<'_>]) -> Result<Vec<EnumVal
 }
 
 /// The list of the items.
-pub fn value_list(alloc: Global, items: &[ValueItem<'_>]) -> Result<Values, DictFault>
+pub fn value_list_of_items(alloc: Global, items: &[ValueItem<'_>]) -> Result<Values, DictFault>
     ensures value { IfOk result (λ list. list ≡ fold with_value [] (map view_value items.now)) }
     ensures good { IfOk result (λ _. value_list_faults (map view_value items.now) ≡ []) }
     ensures fault { IfErr result (StopsAtFirst (value_list_faults (map view_value items.now))) }

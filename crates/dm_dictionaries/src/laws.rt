@@ -3,18 +3,18 @@ ghost use Rattle.dm_dictionaries.specs.Laws.{BaseCommandsGoByBase, OneAloneJudge
 
 /// A base command is judged by the base dictionary, whatever the Application-ID and whatever dictionaries there are. It
 /// stands for users.
-pub fn base_commands_go_by_base()
+pub fn base_commands_go_by_base_dictionary()
     ensures { BaseCommandsGoByBase }
 {}
 
 /// Where no application has a dictionary of its own, the one for all others judges every message that is no base
 /// command, and every message at all where it is the base dictionary. It stands for users.
-pub fn one_alone_judges_all()
+pub fn lone_dictionary_judges_all()
     ensures { OneAloneJudgesAll }
 {}
 
 /// Where an application has a dictionary of its own, that judges its messages, but for base commands. It stands for
 /// users.
-pub fn own_judges_its_application()
+pub fn own_dictionary_judges_its_application()
     ensures { OwnJudgesItsApplication }
 {}

@@ -1,4 +1,4 @@
-//! Who sends and who receives.
+//! Addresses of IP, and the ends of connections.
 ghost use Rattle.std.specs.Prelude.{◌≡◌, ◌↔◌, IsTrue};
 
 /// An address of IP, as the number that its octets are, the highest first (RFC 791, 3.1; RFC 8200, 3).

@@ -6,7 +6,7 @@ ghost use Rattle.dm_flows.specs.Flows.{HandsMessage, HandsNoMessage};
 ghost use Rattle.dm_flows.specs.Tcps.{segment_seen};
 
 use crate::address::{Endpoint, is_same_end};
-use crate::control_bits::take_segment;
+use crate::control_bits::take_segment_in_direction;
 use crate::flow::Flow;
 use crate::segment::Segment;
 use std::alloc::{AllocError, Global};
@@ -43,26 +43,30 @@ impl Connection {
     }
 
     /// How many octets were passed over in both directions, up to 2^64 - 1. It never answers want of memory.
-    pub fn passed(&self) -> u64
+    pub fn octets_passed_over_both_ways(&self) -> u64
         ensures { result ≡ passed_in self.now }
     {
-        self.forth.passed().saturating_add(self.back.passed())
+        self.forth
+            .octets_passed_over()
+            .saturating_add(self.back.octets_passed_over())
     }
 
-    /// How many octets are held in both directions, as [`Flow::held`] counts them, up to 2^64 - 1. It takes one step,
-    /// and never answers want of memory.
-    pub fn held(&self) -> u64
+    /// How many octets are held in both directions, as [`Flow::octets_held`] counts them, up to 2^64 - 1. It takes one
+    /// step, and never answers want of memory.
+    pub fn octets_held_both_ways(&self) -> u64
         ensures { result ≡ held_in self.now }
     {
-        (self.forth.held() as u64).saturating_add(self.back.held() as u64)
+        (self.forth.octets_held() as u64).saturating_add(self.back.octets_held() as u64)
     }
 
     /// How many octets came in both directions that were neither handed out nor passed over, up to 2^64 - 1. It takes a
     /// step for each octet of both windows, and never answers want of memory.
-    pub fn pending(&self) -> u64
+    pub fn octets_pending_both_ways(&self) -> u64
         ensures { result ≡ pending_in self.now }
     {
-        self.forth.pending().saturating_add(self.back.pending())
+        self.forth
+            .octets_pending()
+            .saturating_add(self.back.octets_pending())
     }
 
     /// Takes a segment that came from the first end, or else from the second one.
@@ -70,38 +74,38 @@ impl Connection {
     /// A SYN begins a connection: where it is that of a new one both directions begin anew, and what wasn't handed out
     /// is passed over. A FIN ends the direction behind its octets, a RST both. Where memory is wanted the control bits
     /// count, and the octets were taken up to some or not.
-    pub fn take(&mut self, segment: Segment<'_>) -> Result<(), AllocError>
+    pub fn take_segment(&mut self, segment: Segment<'_>) -> Result<(), AllocError>
         ensures taken { OnOk result (TakesSegment self.old (segment_seen segment.entry) self.new) }
         ensures left { OnErr result (LeavesConnection self.old (segment_seen segment.entry) self.new) }
     {
         if is_same_end(segment.source, self.first) {
-            take_segment(&mut self.forth, &mut self.back, segment)
+            take_segment_in_direction(&mut self.forth, &mut self.back, segment)
         } else {
-            take_segment(&mut self.back, &mut self.forth, segment)
+            take_segment_in_direction(&mut self.back, &mut self.forth, segment)
         }
     }
 
     /// Hands out the next whole message from the first end to the second; None where it isn't whole yet. Where memory
     /// is wanted nothing changes.
-    pub fn next_forth(&mut self) -> Result<Option<Vec<u8>>, AllocError>
+    pub fn next_message_from_first(&mut self) -> Result<Option<Vec<u8>>, AllocError>
         ensures message { IfOk result (λ found. IfSome found
             (λ message. HandsMessage self.old.forth message.items self.new.forth)) }
         ensures none { IfOk result (λ found. IfNone found (HandsNoMessage self.old.forth self.new.forth)) }
         ensures unchanged { OnErr result (self.new ≡ self.old) }
         ensures others { self.new ≡ record self.old { forth = self.new.forth } }
     {
-        self.forth.next()
+        self.forth.next_message()
     }
 
     /// Hands out the next whole message from the second end to the first; None where it isn't whole yet. Where memory
     /// is wanted nothing changes.
-    pub fn next_back(&mut self) -> Result<Option<Vec<u8>>, AllocError>
+    pub fn next_message_from_second(&mut self) -> Result<Option<Vec<u8>>, AllocError>
         ensures message { IfOk result (λ found. IfSome found
             (λ message. HandsMessage self.old.back message.items self.new.back)) }
         ensures none { IfOk result (λ found. IfNone found (HandsNoMessage self.old.back self.new.back)) }
         ensures unchanged { OnErr result (self.new ≡ self.old) }
         ensures others { self.new ≡ record self.old { back = self.new.back } }
     {
-        self.back.next()
+        self.back.next_message()
     }
 }

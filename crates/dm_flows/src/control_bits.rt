@@ -6,7 +6,7 @@ ghost use Rattle.dm_flows.specs.Connections.{HearsSegment, LeavesSegment};
 ghost use Rattle.dm_flows.specs.Tcps.{segment_seen};
 
 use crate::closing::is_open;
-use crate::flow::{Flow, number_behind};
+use crate::flow::{Flow, sequence_number_behind};
 use crate::segment::Segment;
 use std::alloc::AllocError;
 
@@ -14,8 +14,8 @@ use std::alloc::AllocError;
 fn repeats_syn(own: &Flow, number: u32) -> bool
     ensures { result ≡ is_same_syn own.now number }
 {
-    match own.syn() {
-        Some(syn) => is_open(own.closing()) && syn == number,
+    match own.syn_number() {
+        Some(syn) => is_open(own.why_closed()) && syn == number,
         None => false,
     }
 }
@@ -25,7 +25,7 @@ fn repeats_syn(own: &Flow, number: u32) -> bool
 fn answers_syn(own: &Flow, other: &Flow) -> bool
     ensures { result ≡ is_answering_syn (record { own = own.now; other = other.now }) }
 {
-    is_open(own.closing()) && own.syn().is_none() && other.syn().is_some()
+    is_open(own.why_closed()) && own.syn_number().is_none() && other.syn_number().is_some()
 }
 
 /// Takes a SYN with this number. The same one again changes nothing; else its direction begins, and the other one too,
@@ -38,9 +38,9 @@ fn take_syn(own: &mut Flow, other: &mut Flow, number: u32)
         return;
     }
     if !answers_syn(own, other) {
-        other.begin_unseen();
+        other.begin_with_nothing_seen();
     }
-    own.begin(number);
+    own.begin_at_syn(number);
 }
 
 /// The sequence number of a segment's first octet: that behind its SYN, where it has one (RFC 9293, 3.4).
@@ -61,21 +61,21 @@ fn apply_control_bits(own: &mut Flow, other: &mut Flow, segment: Segment<'_>)
         ≡ controlled (segment_seen segment.entry) (record { own = own.old; other = other.old }) }
 {
     if segment.rst {
-        own.reset();
-        other.reset();
+        own.end_at_rst();
+        other.end_at_rst();
         return;
     }
     if segment.syn {
         take_syn(own, other, segment.sequence);
     }
     if segment.fin {
-        let last = number_behind(first_octet_number(segment), segment.payload.len());
-        own.finish(last);
+        let last = sequence_number_behind(first_octet_number(segment), segment.payload.len());
+        own.end_at_fin(last);
     }
 }
 
 /// Takes a segment of the direction `own`: its control bits, and then its octets.
-pub(crate) fn take_segment(
+pub(crate) fn take_segment_in_direction(
     own: &mut Flow,
     other: &mut Flow,
     segment: Segment<'_>,
@@ -86,5 +86,5 @@ pub(crate) fn take_segment(
         (segment_seen segment.entry) (record { own = own.new; other = other.new })) }
 {
     apply_control_bits(own, other, segment);
-    own.take(first_octet_number(segment), segment.payload)
+    own.take_octets(first_octet_number(segment), segment.payload)
 }

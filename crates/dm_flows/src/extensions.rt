@@ -27,7 +27,7 @@ pub(crate) enum Astray {
 }
 
 /// Whether the number is that of an extension header that is passed.
-fn is_extension(next: u8) -> bool
+fn is_extension_header(next: u8) -> bool
     ensures yes { result ≡ true → IsExtension next }
     ensures no { result ≡ false → IsExtension next → ⊥ }
 {
@@ -61,13 +61,13 @@ fn is_fragment(next: u8, octets: &[u8]) -> bool
 
 /// The protocol and the octets behind extension headers, the first of which has the number `first`; an Err where they
 /// end in the middle of one, or one is a fragment's.
-pub(crate) fn pass_extensions(first: u8, octets: &[u8]) -> Result<Upper<'_>, Astray>
+pub(crate) fn upper_behind_extensions(first: u8, octets: &[u8]) -> Result<Upper<'_>, Astray>
     ensures upper { IfOk result (λ upper. (n : ℕ) × LeadsTo n first octets.now upper.protocol upper.payload.now) }
     ensures astray { IfErr result (GoesAstray first octets.now) }
 {
     let mut next = first;
     let mut rest = octets;
-    'headers: while is_extension(next) {
+    'headers: while is_extension_header(next) {
         if rest.len() < 2 {
             return Err(Astray::Ends);
         }

@@ -59,7 +59,7 @@ impl Model for Flow {
 }
 
 /// The octets that were counted and so many more, 2^64 - 1 at most.
-fn octet_sum(passed: u64, octets: usize) -> u64
+fn capped_octet_sum(passed: u64, octets: usize) -> u64
     ensures { result ≡ more_passed passed octets }
 {
     passed.saturating_add(octets as u64)
@@ -67,7 +67,7 @@ fn octet_sum(passed: u64, octets: usize) -> u64
 
 /// How many octets there are from the sequence number `number` up to `last`, modulo 2^32; none where `last` is before
 /// it.
-fn count_before_end(last: u32, number: u32) -> usize
+fn count_octets_up_to(last: u32, number: u32) -> usize
     ensures { result ≡ place_ahead number last }
 {
     let room = last.wrapping_sub(number);
@@ -82,41 +82,41 @@ fn octets_before_end(closing: Closing, number: u32, octets: &[u8]) -> &[u8]
 {
     match closing {
         Closing::Open => octets,
-        Closing::Fin(last) => first_octets(octets, count_before_end(last, number)),
+        Closing::Fin(last) => first_octets(octets, count_octets_up_to(last, number)),
         Closing::Reset => &octets[..0],
     }
 }
 
 /// The sequence number behind so many octets, of which the first has this number.
-pub(crate) fn number_behind(number: u32, octets: usize) -> u32
+pub(crate) fn sequence_number_behind(number: u32, octets: usize) -> u32
     ensures { result ≡ sequence_behind number octets }
 {
     number.wrapping_add((octets % ALL_NUMBERS) as u32)
 }
 
 /// How many octets wait behind one that is missing; none where the place in the stream isn't known.
-fn waiting_in(window: &Option<Window>) -> usize
+fn octets_waiting_in(window: &Option<Window>) -> usize
     ensures waiting { result ≡ known_waiting window.now }
     ensures most { result ≤ 1048576 }
 {
     match window {
-        Some(window) => window.waiting(),
+        Some(window) => window.octets_waiting(),
         None => 0,
     }
 }
 
 /// How many octets there are from the next one to the last that waits; none where the place in the stream isn't known.
-fn span_in(window: &Option<Window>) -> usize
+fn span_to_last_in(window: &Option<Window>) -> usize
     ensures { result ≡ known_span window.now }
 {
     match window {
-        Some(window) => window.span(),
+        Some(window) => window.span_to_last(),
         None => 0,
     }
 }
 
 /// Hands the octets in `fresh` to the framer, and empties it. Where memory is wanted both stay as they were.
-fn feed_framer(framer: &mut Framer, fresh: &mut Vec<u8>) -> Result<(), AllocError>
+fn feed_framer_and_clear(framer: &mut Framer, fresh: &mut Vec<u8>) -> Result<(), AllocError>
     requires { framer.old.fault ≡ None }
     ensures fed { OnOk result (framer.new
         ≡ record framer.old { octets = framer.old.octets ++ fresh.old.items }) }
@@ -151,7 +151,7 @@ impl Flow {
     }
 
     /// How many octets were passed over, up to 2^64 - 1. It never answers want of memory.
-    pub fn passed(&self) -> u64
+    pub fn octets_passed_over(&self) -> u64
         ensures { result ≡ self.now.passed }
     {
         self.passed
@@ -160,31 +160,31 @@ impl Flow {
     /// How many octets are held, up to 2^64 - 1: those from the next one to the last that waits, with those that are
     /// missing between, and those in order that weren't handed out. It takes one step, and never answers want of
     /// memory.
-    pub fn held(&self) -> usize
+    pub fn octets_held(&self) -> usize
         ensures { result ≡ held_octets self.now }
     {
         let in_order = self.framer.len().saturating_add(self.fresh.len());
-        span_in(&self.window).saturating_add(in_order)
+        span_to_last_in(&self.window).saturating_add(in_order)
     }
 
     /// How many octets came that were neither handed out nor passed over, up to 2^64 - 1: those that wait, and those in
     /// order. It takes a step for each octet of the window, and never answers want of memory.
-    pub fn pending(&self) -> u64
+    pub fn octets_pending(&self) -> u64
         ensures { result ≡ pending_octets self.now }
     {
-        let pending = octet_sum(waiting_in(&self.window) as u64, self.framer.len());
-        octet_sum(pending, self.fresh.len())
+        let pending = capped_octet_sum(octets_waiting_in(&self.window) as u64, self.framer.len());
+        capped_octet_sum(pending, self.fresh.len())
     }
 
     /// The number of the SYN with which the connection began, where it was seen. It never answers want of memory.
-    pub fn syn(&self) -> Option<u32>
+    pub fn syn_number(&self) -> Option<u32>
         ensures { result ≡ self.now.syn }
     {
         self.syn
     }
 
     /// What ended the direction. It never answers want of memory.
-    pub fn closing(&self) -> Closing
+    pub fn why_closed(&self) -> Closing
         ensures { result ≡ self.now.closing }
     {
         self.closing
@@ -194,9 +194,9 @@ impl Flow {
     fn leave_stream(&mut self)
         ensures { self.new ≡ stream_left self.old }
     {
-        let passed = octet_sum(self.passed, waiting_in(&self.window));
-        let passed = octet_sum(passed, self.framer.len());
-        self.passed = octet_sum(passed, self.fresh.len());
+        let passed = capped_octet_sum(self.passed, octets_waiting_in(&self.window));
+        let passed = capped_octet_sum(passed, self.framer.len());
+        self.passed = capped_octet_sum(passed, self.fresh.len());
         self.window = None;
         self.framer = Framer::new(self.alloc, self.framer.max());
         self.fresh = Vec::new(self.alloc);
@@ -205,7 +205,7 @@ impl Flow {
     /// A SYN with this number begins a new connection. It never answers want of memory.
     ///
     /// What waits, and the messages that weren't handed out, are passed over.
-    pub fn begin(&mut self, number: u32)
+    pub fn begin_at_syn(&mut self, number: u32)
         ensures { self.new ≡ begun_by_syn self.old number }
     {
         self.leave_stream();
@@ -217,7 +217,7 @@ impl Flow {
     /// A new connection begins, of which nothing came in this direction. It never answers want of memory.
     ///
     /// What waits, and the messages that weren't handed out, are passed over.
-    pub fn begin_unseen(&mut self)
+    pub fn begin_with_nothing_seen(&mut self)
         ensures { self.new ≡ begun_unseen self.old }
     {
         self.leave_stream();
@@ -227,7 +227,7 @@ impl Flow {
 
     /// A FIN has this number: octets are taken up to it, unless something ended the direction before. It never answers
     /// want of memory.
-    pub fn finish(&mut self, number: u32)
+    pub fn end_at_fin(&mut self, number: u32)
         ensures { self.new ≡ record self.old { closing = closing_by_fin self.old.closing number } }
     {
         if let Closing::Open = self.closing {
@@ -236,7 +236,7 @@ impl Flow {
     }
 
     /// A RST came: no octets are taken until a new connection begins. It never answers want of memory.
-    pub fn reset(&mut self)
+    pub fn end_at_rst(&mut self)
         ensures { self.new ≡ record self.old { closing = Closing.Reset } }
     {
         self.closing = Closing::Reset;
@@ -248,19 +248,19 @@ impl Flow {
     /// known, or they are too far ahead or behind, the stream is left and begins anew with them, or they are passed
     /// over too.
     /// Where memory is wanted nothing changed, or the octets were taken, and those in order kept up to some.
-    pub fn take(&mut self, number: u32, octets: &[u8]) -> Result<(), AllocError>
+    pub fn take_octets(&mut self, number: u32, octets: &[u8]) -> Result<(), AllocError>
         ensures taken { OnOk result (TakesPayload self.old number octets.now self.new) }
         ensures left { OnErr result (LeavesPayload self.old number octets.now self.new) }
     {
         let inside = octets_before_end(self.closing, number, octets);
-        self.take_before_end(number, inside)?;
-        self.passed = octet_sum(self.passed, octets.len() - inside.len());
+        self.take_octets_before_end(number, inside)?;
+        self.passed = capped_octet_sum(self.passed, octets.len() - inside.len());
         Ok(())
     }
 
     /// Takes octets that are before the end: they go on with the stream, or a new one begins with them, or they are
     /// passed over.
-    fn take_before_end(&mut self, number: u32, octets: &[u8]) -> Result<(), AllocError>
+    fn take_octets_before_end(&mut self, number: u32, octets: &[u8]) -> Result<(), AllocError>
         ensures taken { OnOk result (TakesWithin self.old number octets.now self.new) }
         ensures left { OnErr result ((self.new ≡ self.old) ⊎ FlowTakes self.old number octets.now self.new) }
     {
@@ -285,7 +285,7 @@ impl Flow {
         if !octets.is_empty() && window.is_far_behind(number) {
             return Ok(false);
         }
-        match window.take_through(number, octets, &mut self.fresh) {
+        match window.take_and_hand_out(number, octets, &mut self.fresh) {
             Ok(()) => return Ok(true),
             Err(WindowFault::TooFar) => return Ok(false),
             Err(WindowFault::NoMemory) => return Err(AllocError),
@@ -299,7 +299,7 @@ impl Flow {
     {
         if !begins_with_header(octets) {
             self.leave_stream();
-            self.passed = octet_sum(self.passed, octets.len());
+            self.passed = capped_octet_sum(self.passed, octets.len());
             return Ok(());
         }
         let front = Vec::from_slice(self.alloc, octets)?;
@@ -312,7 +312,7 @@ impl Flow {
         ensures { self.new ≡ begun_by_header self.old number front.items }
     {
         self.leave_stream();
-        self.window = Some(Window::new(self.alloc, number_behind(number, front.len())));
+        self.window = Some(Window::new(self.alloc, sequence_number_behind(number, front.len())));
         self.fresh = front;
     }
 
@@ -320,13 +320,13 @@ impl Flow {
     ///
     /// Where what is in order is no message the stream is left, and None is answered. Where memory is wanted nothing
     /// changes.
-    pub fn next(&mut self) -> Result<Option<Vec<u8>>, AllocError>
+    pub fn next_message(&mut self) -> Result<Option<Vec<u8>>, AllocError>
         ensures message { IfOk result (λ found. IfSome found
             (λ message. HandsMessage self.old message.items self.new)) }
         ensures none { IfOk result (λ found. IfNone found (HandsNoMessage self.old self.new)) }
         ensures unchanged { OnErr result (self.new ≡ self.old) }
     {
-        feed_framer(&mut self.framer, &mut self.fresh)?;
+        feed_framer_and_clear(&mut self.framer, &mut self.fresh)?;
         match self.framer.front() {
             Ok(Some(message)) => {
                 let message = Vec::from_slice(self.alloc, message)?;

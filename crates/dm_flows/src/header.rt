@@ -32,7 +32,7 @@ pub fn begins_with_header(octets: &[u8]) -> bool
 }
 
 /// Whether the header of a Capabilities-Exchange-Request may stand at the front of the octets. It takes no memory.
-pub fn begins_with_exchange(octets: &[u8]) -> bool
+pub fn begins_with_exchange_request(octets: &[u8]) -> bool
     ensures { IsTrue result ↔ BeginsWithExchange octets.now }
 {
     if !begins_with_header(octets) || octets.len() < HEADER_LEN {

@@ -9,7 +9,7 @@ use crate::network::{IpOctets, Network};
 use crate::passed::Passed;
 
 /// What an IP packet of either version carries, or why it gives nothing.
-pub(crate) fn carried_by(ip: IpOctets<'_>) -> Result<Carried<'_>, Passed>
+pub(crate) fn carried_by_ip(ip: IpOctets<'_>) -> Result<Carried<'_>, Passed>
     ensures carried { IfOk result (λ carried.
         CarriesOctets ip.entry.network ip.entry.octets.now (carried_of carried)) }
     ensures fault { IfErr result (HasIpFault ip.entry.network ip.entry.octets.now) }

@@ -1,4 +1,5 @@
-//! TCP segments out of captured packets: what stands in front of them on links and in IP packets.
+//! TCP segments, and SCTP packets with their DATA chunks, out of captured packets: what stands in front of them on
+//! links and in IP packets; and the Diameter messages in the segments of both ends of a connection.
 #![tactic(auto)]
 
 mod address;
@@ -29,9 +30,9 @@ pub use address::{Address, Endpoint};
 pub use closing::Closing;
 pub use connection::Connection;
 pub use flow::Flow;
-pub use header::{begins_with_exchange, begins_with_header};
+pub use header::{begins_with_exchange_request, begins_with_header};
 pub use passed::Passed;
-pub use sctp::{SctpPacket, sctp_of};
+pub use sctp::{SctpPacket, sctp_packet_of};
 pub use sctp_chunks::{DataChunk, DataChunks};
 pub use segment::{Segment, segment_of};
 pub use window::{WINDOW, Window, WindowFault};

@@ -8,7 +8,7 @@ use crate::network::{
     network_by_version,
 };
 use crate::passed::Passed;
-use crate::tags::pass_tags;
+use crate::tags::ethertype_behind_tags;
 use byteorder::{BigEndian, ByteOrder};
 
 /// The types of links that are read.
@@ -55,7 +55,7 @@ fn ip_behind_ethertype(front: usize, octets: &[u8]) -> Result<IpOctets<'_>, Pass
     if octets.len() < front {
         return Err(Passed::Cut);
     }
-    let Some(found) = pass_tags(&octets[front..]) else {
+    let Some(found) = ethertype_behind_tags(&octets[front..]) else {
         return Err(Passed::Cut);
     };
     match network_by_ethertype(found.kind) {
@@ -87,7 +87,7 @@ fn ip_behind_header(
 }
 
 /// The IP packet behind a Linux cooked header of version 2, or why there is none.
-fn ip_of_cooked_second(octets: &[u8]) -> Result<IpOctets<'_>, Passed>
+fn ip_of_linux_cooked_v2(octets: &[u8]) -> Result<IpOctets<'_>, Passed>
     ensures found { IfOk result (λ ip. HoldsIp LinkKind.CookedSecond octets.now ip.network ip.octets.now) }
     ensures none { IfErr result (HasLinkFault LinkKind.CookedSecond octets.now) }
 {
@@ -145,7 +145,7 @@ pub(crate) fn ip_of_link(link: u16, octets: &[u8]) -> Result<IpOctets<'_>, Passe
     match kind_of_link(link) {
         LinkKind::Ethernet => ip_behind_ethertype(12, octets),
         LinkKind::Cooked => ip_behind_ethertype(14, octets),
-        LinkKind::CookedSecond => ip_of_cooked_second(octets),
+        LinkKind::CookedSecond => ip_of_linux_cooked_v2(octets),
         LinkKind::HostLoopback => ip_of_host_loopback(octets),
         LinkKind::Loopback => ip_of_loopback(octets),
         LinkKind::RawIp => ip_of_raw_link(octets),

@@ -13,7 +13,7 @@ pub(crate) fn first_octets(octets: &[u8], size: usize) -> &[u8]
 }
 
 /// The octets without so many at the front; none where there are fewer.
-pub(crate) fn without_first(octets: &[u8], passed: usize) -> &[u8]
+pub(crate) fn without_first_octets(octets: &[u8], passed: usize) -> &[u8]
     ensures { result.now ≡ drop passed octets.now }
 {
     if octets.len() < passed {

@@ -5,7 +5,7 @@ ghost use Rattle.dm_flows.specs.Sctps.{sctp_seen, CarriesSctp, CarriesNoSctp, Is
 
 use crate::address::Endpoint;
 use crate::carried::Carried;
-use crate::ip::carried_by;
+use crate::ip::carried_by_ip;
 use crate::link::ip_of_link;
 use crate::passed::Passed;
 use byteorder::{BigEndian, ByteOrder};
@@ -37,7 +37,7 @@ pub struct SctpPacket<'a> {
 /// |                       Verification Tag                        |
 /// |                           Checksum                            |
 /// ```
-fn carried_sctp(carried: Carried<'_>) -> Result<SctpPacket<'_>, Passed>
+fn carried_sctp_packet(carried: Carried<'_>) -> Result<SctpPacket<'_>, Passed>
     ensures packet { IfOk result (λ packet. CarriesSctp (carried_of carried.entry) (sctp_seen packet)) }
     ensures none { IfErr result (CarriesNoSctp (carried_of carried.entry)) }
 {
@@ -67,13 +67,13 @@ fn carried_sctp(carried: Carried<'_>) -> Result<SctpPacket<'_>, Passed>
 
 /// The SCTP packet in what was captured on a link of this type, or what it is instead: `OtherProtocol` where it carries
 /// no SCTP. Its checksum isn't looked at. It takes no memory.
-pub fn sctp_of(link: u16, octets: &[u8]) -> Result<SctpPacket<'_>, Passed>
+pub fn sctp_packet_of(link: u16, octets: &[u8]) -> Result<SctpPacket<'_>, Passed>
     ensures packet { IfOk result (λ packet. IsSctp link octets.now (sctp_seen packet)) }
     ensures none { IfErr result (IsNoSctp link octets.now) }
 {
     match ip_of_link(link, octets) {
-        Ok(ip) => match carried_by(ip) {
-            Ok(carried) => carried_sctp(carried),
+        Ok(ip) => match carried_by_ip(ip) {
+            Ok(carried) => carried_sctp_packet(carried),
             Err(passed) => Err(passed),
         },
         Err(passed) => Err(passed),

@@ -3,7 +3,7 @@ ghost use Rattle.std.specs.Prelude.{◌≡◌, ◌<◌, ◌≤◌, ℕ, length, 
 ghost use Rattle.dm_flows.specs.Sctps.{chunk_length, has_flag, behind_chunk, data_chunk, data_seen, IsData};
 ghost use Rattle.dm_flows.specs.Sctps.{IsWholeChunk, HasData, HasNoData};
 
-use crate::octet_slices::without_first;
+use crate::octet_slices::without_first_octets;
 use byteorder::{BigEndian, ByteOrder};
 use std::marker::Model;
 
@@ -72,7 +72,7 @@ fn octets_after_chunk(octets: &[u8], size: u16) -> &[u8]
     requires { size ≡ chunk_length octets.now }
     ensures { result.now ≡ behind_chunk octets.now }
 {
-    without_first(octets, 4 * ((size as usize + 3) / 4))
+    without_first_octets(octets, 4 * ((size as usize + 3) / 4))
 }
 
 /// The DATA chunk at the front.

@@ -2,15 +2,15 @@
 ghost use Rattle.dm_flows.specs.SctpLaws.{OneSctp, SctpOrReason, OneSctpReason};
 ghost use Rattle.dm_flows.specs.SctpLaws.{EachHasDataList, OneDataList};
 
-/// A packet holds one SCTP packet, or there is one reason why it holds none.
-pub fn one_answer()
+/// A packet holds one SCTP packet at most, or there is one reason at most why it holds none, never both.
+pub fn packets_hold_one_sctp_at_most()
     ensures packet { OneSctp }
     ensures either { SctpOrReason }
     ensures reason { OneSctpReason }
 {}
 
 /// All chunks of a packet are read, and its DATA chunks are one list.
-pub fn one_list()
+pub fn data_chunks_make_one_list()
     ensures some { EachHasDataList }
     ensures one { OneDataList }
 {}

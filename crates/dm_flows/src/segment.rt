@@ -6,7 +6,7 @@ ghost use Rattle.dm_flows.specs.Tcps.{IsSegment, IsNoSegment};
 
 use crate::address::Endpoint;
 use crate::carried::Carried;
-use crate::ip::carried_by;
+use crate::ip::carried_by_ip;
 use crate::link::ip_of_link;
 use crate::passed::Passed;
 use byteorder::{BigEndian, ByteOrder};
@@ -102,7 +102,7 @@ pub fn segment_of(link: u16, octets: &[u8]) -> Result<Segment<'_>, Passed>
     ensures none { IfErr result (IsNoSegment link octets.now) }
 {
     match ip_of_link(link, octets) {
-        Ok(ip) => match carried_by(ip) {
+        Ok(ip) => match carried_by_ip(ip) {
             Ok(carried) => carried_segment(carried),
             Err(passed) => Err(passed),
         },

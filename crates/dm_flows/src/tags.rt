@@ -24,7 +24,7 @@ pub(crate) struct TypedOctets<'a> {
 ///  0 1 2 3 4 5 6 7 8 9 0 1 2 3 4 5 6 7 8 9 0 1 2 3 4 5 6 7 8 9 0 1
 /// |       EtherType 0x8100        | PCP |D|     VLAN Identifier   |
 /// ```
-pub(crate) fn pass_tags(octets: &[u8]) -> Option<TypedOctets<'_>>
+pub(crate) fn ethertype_behind_tags(octets: &[u8]) -> Option<TypedOctets<'_>>
     ensures typed { IfSome result (λ found. (n : ℕ) × HasTags n octets.now found.kind found.octets.now) }
     ensures none { IfNone result ((n : ℕ) × EndsInTags n octets.now) }
 {

@@ -3,7 +3,7 @@ ghost use Rattle.std.specs.Prelude.{◌≡◌, ◌≤◌, ◌++◌, [], length, 
 ghost use Rattle.dm_flows.specs.Windows.{slot, known_octets, place_ahead, passed_of, lies_far_behind, arrival_from};
 ghost use Rattle.dm_flows.specs.Windows.{IsTooFar, TakesOctets, HandsTo, HandsStraight, TakesThrough, LeavesThrough};
 
-use crate::octet_slices::without_first;
+use crate::octet_slices::without_first_octets;
 use crate::slots::{count_filled_slots, fill_empty_slots, grow_slots};
 use std::alloc::{AllocError, Global};
 use std::collections::VecDeque;
@@ -87,7 +87,7 @@ impl Window {
     /// Takes octets whose first has this sequence number. Of each number what came first stays; what is before the next
     /// number was handed out, and is passed by. It refuses what reaches more than [`WINDOW`] octets ahead. An `Err`
     /// changes nothing.
-    pub fn take(&mut self, sequence: u32, octets: &[u8]) -> Result<(), WindowFault>
+    pub fn take_octets(&mut self, sequence: u32, octets: &[u8]) -> Result<(), WindowFault>
         ensures taken { OnOk result (TakesOctets self.old sequence octets.now self.new) }
         ensures err { OnErr result (self.new ≡ self.old) }
         ensures near { OnOk result (IsTooFar (arrival_from self.old.next sequence octets.now) → ⊥) }
@@ -95,7 +95,7 @@ impl Window {
             → IsTooFar (arrival_from self.old.next sequence octets.now)) }
     {
         let place = place_of_sequence(self.next, sequence);
-        let fresh = without_first(octets, place.passed);
+        let fresh = without_first_octets(octets, place.passed);
         if fresh.is_empty() {
             return Ok(());
         }
@@ -118,14 +118,14 @@ impl Window {
     }
 
     /// How many octets there are from the next one to the last that waits. It never answers want of memory.
-    pub fn span(&self) -> usize
+    pub fn span_to_last(&self) -> usize
         ensures { result ≡ length self.now.held }
     {
         self.slots.len()
     }
 
     /// How many octets wait. It never answers want of memory.
-    pub fn waiting(&self) -> usize
+    pub fn octets_waiting(&self) -> usize
         ensures waiting { result ≡ known_octets self.now.held }
         ensures most { result ≤ 1048576 }
     {
@@ -144,7 +144,7 @@ impl Window {
 
     /// Appends the octets that are whole up to the first that is missing. Where memory is wanted those before are
     /// appended, and the others stay.
-    pub fn hand_out(&mut self, output: &mut Vec<u8>) -> Result<(), AllocError>
+    pub fn hand_out_octets(&mut self, output: &mut Vec<u8>) -> Result<(), AllocError>
         ensures handed { HandsTo self.old output.old.items self.new output.new.items }
         ensures all { OnOk result (slot self.new.held 0 ≡ None) }
     {
@@ -155,12 +155,12 @@ impl Window {
         }
         Ok(())
     }
-    /// Takes octets and hands out what is whole then, as `take` and `hand_out` do. Where nothing waits and the octets
-    /// begin at the next number they go straight to the output.
+    /// Takes octets and hands out what is whole then, as `take_octets` and `hand_out_octets` do. Where nothing waits
+    /// and the octets begin at the next number they go straight to the output.
     ///
     /// `TooFar` changes nothing. Where memory is wanted nothing changed, or the octets were taken, and those that are
     /// whole appended up to some.
-    pub fn take_through(
+    pub fn take_and_hand_out(
         &mut self,
         sequence: u32,
         octets: &[u8],
@@ -177,10 +177,10 @@ impl Window {
             × IsTooFar (arrival_from self.old.next sequence octets.now)) }
     {
         if self.slots.is_empty() && self.next == sequence && octets.len() <= WINDOW {
-            return self.hand_on_octets(octets, output);
+            return self.hand_octets_straight_on(octets, output);
         }
-        match self.take(sequence, octets) {
-            Ok(()) => match self.hand_out(output) {
+        match self.take_octets(sequence, octets) {
+            Ok(()) => match self.hand_out_octets(output) {
                 Ok(()) => Ok(()),
                 Err(_) => Err(WindowFault::NoMemory),
             },
@@ -190,7 +190,11 @@ impl Window {
 
     /// Appends octets that begin at the next number to the output, where nothing waits. Where memory is wanted nothing
     /// changes.
-    fn hand_on_octets(&mut self, octets: &[u8], output: &mut Vec<u8>) -> Result<(), WindowFault>
+    fn hand_octets_straight_on(
+        &mut self,
+        octets: &[u8],
+        output: &mut Vec<u8>,
+    ) -> Result<(), WindowFault>
         requires none { self.old.held ≡ [] }
         requires most { length octets.now ≤ 1048576 }
         ensures passed { OnOk result (HandsStraight self.old octets.now self.new) }

@@ -8,28 +8,29 @@ pub fn each_stream_is_framed()
 {}
 
 /// A stream has its frames, rest and fault in one way only.
-pub fn one_framing()
+pub fn each_stream_is_framed_in_one_way()
     ensures { OneFraming }
 {}
 
-/// The frames of a stream that goes on are those before it went on, and then those of the rest with what came. So
-/// it doesn't matter into which pieces the stream was cut. It stands for users: no code calls it.
-pub fn cuts()
+/// The frames of a stream that goes on are those before it went on, and then those of the rest with what came. So it
+/// doesn't matter into which pieces the stream was cut.
+pub fn cuts_change_no_frames()
     ensures { Cuts }
 {}
 
 /// A fault stays, however the stream goes on, so that nothing is lost where it is kept. It stands for users.
-pub fn fault_stays()
+pub fn faults_of_streams_stay()
     ensures { FaultStays }
 {}
 
 /// Frames, one after the other, are cut into just these frames, with no rest and no fault. It stands for users.
-pub fn whole_frames()
+pub fn frames_in_a_row_stay_themselves()
     ensures { WholeFrames }
 {}
 
-/// One frame or one fault stands at a stream's front, or nothing yet; and a fault stands there for good.
-pub fn one_front()
+/// At most one frame stands at a stream's front, and none where a fault does; a fault stands there whatever comes
+/// behind.
+pub fn at_most_one_frame_is_in_front()
     ensures frame { OneFront }
     ensures either { FrameOrFault }
     ensures fault { FaultStands }

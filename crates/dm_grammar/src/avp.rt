@@ -14,24 +14,24 @@ use crate::first_tokens::{begins_with_terminal, expect_token};
 use crate::item::{AvpItem, VendorWord};
 use crate::reading::{Reading, Version};
 use crate::symbol::Symbol;
-use crate::terminal::{Terminal, fits};
+use crate::terminal::{Terminal, terminal_takes_symbol};
 use crate::token::Token;
-use crate::value::read_values;
+use crate::value::read_value_list;
 use crate::vendor::read_vendor_word;
 use std::alloc::Global;
 
 /// Whether a list may stand behind the type.
-fn may_have_list(kind: Token<'_>, how: Reading) -> bool
+fn is_listable_type(kind: Token<'_>, how: Reading) -> bool
     ensures { result ≡ may_list how.version (view_word kind.entry) }
 {
     match how.version {
         Version::First => false,
-        Version::Second => fits(Terminal::One(Symbol::Enumerated), kind.symbol),
+        Version::Second => terminal_takes_symbol(Terminal::One(Symbol::Enumerated), kind.symbol),
     }
 }
 
 /// A type, and whether a list may stand behind it.
-fn read_avp_type<'t, 'a>(
+fn read_type_and_if_listable<'t, 'a>(
     tokens: &'t [Token<'a>],
     how: Reading,
 ) -> Result<((Token<'a>, bool), &'t [Token<'a>]), usize>
@@ -42,7 +42,7 @@ fn read_avp_type<'t, 'a>(
     ensures shorter { IfOk result (λ x. length x.1.now < length tokens.now) }
 {
     let (kind, rest) = expect_token(tokens, how, Terminal::AnyName)?;
-    Ok(((kind, may_have_list(kind, how)), rest))
+    Ok(((kind, is_listable_type(kind, how)), rest))
 }
 
 /// `{` before a list, where one may stand.
@@ -82,14 +82,14 @@ fn read_type_part<'t, 'a>(
         (λ line. collect how AvpCode (view_words tokens.now) ≡ Err line) }
     ensures shorter { IfOk result (λ x. length x.1.now < length tokens.now) }
 {
-    let ((kind, may), rest) = read_avp_type(tokens, how)?;
+    let ((kind, may), rest) = read_type_and_if_listable(tokens, how)?;
     let (vendor, rest) = read_vendor_word(rest, how)?;
     let (list, rest) = read_list_brace(rest, how, may);
     Ok((TypePart { kind, vendor, list }, rest))
 }
 
 /// number type [vend] ["{"].
-fn read_code_and_type<'t, 'a>(
+fn read_code_and_type_part<'t, 'a>(
     tokens: &'t [Token<'a>],
     how: Reading,
 ) -> Result<((Token<'a>, TypePart<'a>), &'t [Token<'a>]), usize>
@@ -121,7 +121,7 @@ fn read_avp_front<'t, 'a>(
     ensures shorter { IfOk result (λ x. length x.1.now < length tokens.now) }
 {
     let (name, rest) = expect_token(tokens, how, Terminal::AnyName)?;
-    let ((code, typed), rest) = read_code_and_type(rest, how)?;
+    let ((code, typed), rest) = read_code_and_type_part(rest, how)?;
     Ok(((name, code, typed), rest))
 }
 
@@ -140,7 +140,7 @@ pub(crate) fn read_avp_item<'t, 'a>(
 {
     match read_avp_front(tokens, how) {
         Ok(((name, code, typed), rest)) => {
-            let (values, rest) = read_values(alloc, rest, how, typed.list)?;
+            let (values, rest) = read_value_list(alloc, rest, how, typed.list)?;
             let item = AvpItem {
                 name,
                 code,

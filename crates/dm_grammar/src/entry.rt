@@ -15,7 +15,7 @@ use crate::title::begins_bracketed_title;
 use crate::token::Token;
 
 /// The form of the entry that a bracket opens; None for a symbol that opens none.
-fn bracket_form(symbol: Symbol) -> Option<Form>
+fn form_of_opening_bracket(symbol: Symbol) -> Option<Form>
     ensures { result ≡ bracket_form symbol }
 {
     match symbol {
@@ -52,7 +52,7 @@ fn read_bracketed_name<'t, 'a>(
     let Some((open, rest)) = tokens.split_first() else {
         return Err(how.last);
     };
-    let Some(form) = bracket_form(open.symbol) else {
+    let Some(form) = form_of_opening_bracket(open.symbol) else {
         return Err(open.line);
     };
     let close = Terminal::One(closing_bracket(form));

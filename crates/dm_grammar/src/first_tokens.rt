@@ -9,7 +9,7 @@ ghost use Rattle.dm_grammar.specs.Told.{collect, filled};
 ghost use Rattle.dm_grammar.specs.Views.{view_word, view_words};
 
 use crate::reading::Reading;
-use crate::terminal::{Terminal, fits};
+use crate::terminal::{Terminal, terminal_takes_symbol};
 use crate::token::Token;
 
 /// The same tokens. A loop's variable takes what is left from a call, since the proof can't follow a
@@ -51,7 +51,7 @@ pub(crate) fn expect_token<'t, 'a>(
 {
     match tokens.split_first() {
         Some((first, rest)) => {
-            if fits(terminal, first.symbol) {
+            if terminal_takes_symbol(terminal, first.symbol) {
                 Ok((*first, rest))
             } else {
                 Err(first.line)
@@ -94,7 +94,7 @@ pub(crate) fn take_token_if<'t, 'a>(
 {
     match tokens.split_first() {
         Some((first, rest)) => {
-            if fits(terminal, first.symbol) {
+            if terminal_takes_symbol(terminal, first.symbol) {
                 (Some(*first), rest)
             } else {
                 (None, tokens)
@@ -108,7 +108,7 @@ pub(crate) fn take_token_if<'t, 'a>(
 pub(crate) fn is_terminal_at(tokens: &[Token<'_>], place: usize, terminal: Terminal) -> bool
     ensures { result ≡ begins_with terminal (drop place (view_words tokens.now)) }
 {
-    place < tokens.len() && fits(terminal, tokens[place].symbol)
+    place < tokens.len() && terminal_takes_symbol(terminal, tokens[place].symbol)
 }
 
 /// Whether the tokens begin with the terminal.

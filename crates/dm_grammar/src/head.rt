@@ -30,7 +30,7 @@ pub(crate) struct Head<'a> {
 }
 
 /// `,` and a flag, where they are there.
-fn read_flag<'t, 'a>(tokens: &'t [Token<'a>], symbol: Symbol) -> (bool, &'t [Token<'a>])
+fn read_comma_and_flag<'t, 'a>(tokens: &'t [Token<'a>], symbol: Symbol) -> (bool, &'t [Token<'a>])
     ensures flag { result.0 ≡ begins_flag symbol (view_words tokens.now) }
     ensures rest { view_words result.1.now
         ≡ (if result.0 then drop 2 (view_words tokens.now) else view_words tokens.now) }
@@ -92,9 +92,9 @@ fn read_command_head<'t, 'a>(
         Terminal::One(Symbol::Colon),
         Terminal::One(Symbol::Number),
     )?;
-    let (request, rest) = read_flag(rest, Symbol::Req);
-    let (proxiable, rest) = read_flag(rest, Symbol::Pxy);
-    let (error, rest) = read_flag(rest, Symbol::Err);
+    let (request, rest) = read_comma_and_flag(rest, Symbol::Req);
+    let (proxiable, rest) = read_comma_and_flag(rest, Symbol::Pxy);
+    let (error, rest) = read_comma_and_flag(rest, Symbol::Err);
     let (second, rest) = read_head_end(rest, how)?;
     let head = Head {
         command: true,

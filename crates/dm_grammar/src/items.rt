@@ -19,15 +19,15 @@ use crate::fault::ItemFault;
 use crate::first_tokens::{same_tokens, take_token_if};
 use crate::head::Head;
 use crate::item::{CommandItem, EntryItem, GroupItem, Item};
-use crate::lex::{last_line, read_tokens};
+use crate::lex::{last_line_number, read_tokens};
 use crate::reading::Reading;
 use crate::rule::read_rule;
 use crate::symbol::Symbol;
 use crate::terminal::Terminal;
 use crate::title::read_title_and_head;
 use crate::token::Token;
-use crate::vendor::{begins_vendor, named_or_numbered_vendor, read_vendor_item};
-use crate::version::version_and_body;
+use crate::vendor::{begins_vendor_item, named_or_numbered_vendor, read_vendor_item};
+use crate::version::read_version_and_body;
 use std::alloc::Global;
 
 /// The command or the group of a title, a head and a rule.
@@ -91,7 +91,7 @@ fn read_vendor_or_avp<'t, 'a>(
         (λ fault. IfSyntax fault (λ line. collect how AtSign (view_words tokens.now) ≡ Err line)) }
     ensures shorter { IfOk result (λ x. length x.1.now < length tokens.now) }
 {
-    if begins_vendor(tokens, how) {
+    if begins_vendor_item(tokens, how) {
         match read_vendor_item(tokens, how) {
             Ok((vendor, rest)) => Ok((Item::Vendor(vendor), rest)),
             Err(line) => Err(ItemFault::Syntax(line)),
@@ -123,7 +123,7 @@ fn read_item<'t, 'a>(
 }
 
 /// Puts the next item behind the others, and gives what is left.
-fn add_next_item<'t, 'a>(
+fn push_next_item<'t, 'a>(
     alloc: Global,
     tokens: &'t [Token<'a>],
     how: Reading,
@@ -145,7 +145,7 @@ fn add_next_item<'t, 'a>(
 }
 
 /// Puts all items, to the end of the tokens, into a list that is empty.
-fn add_all_items<'a>(
+fn push_all_items<'a>(
     alloc: Global,
     tokens: &[Token<'a>],
     how: Reading,
@@ -159,7 +159,7 @@ fn add_all_items<'a>(
 {
     let mut rest = tokens;
     while !rest.is_empty() {
-        let after = add_next_item(alloc, rest, how, found)?;
+        let after = push_next_item(alloc, rest, how, found)?;
         rest = same_tokens(after);
     }
     Ok(())
@@ -177,25 +177,26 @@ fn read_all_items<'a>(
         ≡ Err line)) }
 {
     let mut found = Vec::new(alloc);
-    let done = add_all_items(alloc, tokens, how, &mut found);
+    let done = push_all_items(alloc, tokens, how, &mut found);
     done.and(Ok(found))
 }
 
-/// The items of the text, in order, whatever its version; or the line of its syntax fault, or want of memory.
-fn read_text_items(alloc: Global, text: &[u8]) -> Result<Vec<Item<'_>>, ItemFault>
+/// The items of the text, in order, whatever its version, as the steps of the grammar take its tokens; or the line of
+/// its syntax fault, or want of memory.
+fn read_items_by_steps(alloc: Global, text: &[u8]) -> Result<Vec<Item<'_>>, ItemFault>
     ensures items { IfOk result (λ items. items_or_line text.now ≡ Ok (map view_item items.items)) }
     ensures fault { IfErr result (λ fault. IfSyntax fault (λ line. items_or_line text.now ≡ Err line)) }
 {
-    let last = last_line(text);
+    let last = last_line_number(text);
     let all = read_tokens(alloc, text).map_err(|_| ItemFault::NoMemory)?;
-    let (version, body) = version_and_body(all.as_slice());
+    let (version, body) = read_version_and_body(all.as_slice());
     let found = read_all_items(alloc, body, Reading { version, last });
     drop(all);
     found
 }
 
-/// The items of a dictionary text (RFC 6733 section 3.2) of version 1 or 2, in order. The tokens are borrowed from the
-/// text.
+/// The items of a dictionary text (RFC 6733 section 3.2) of version 1 or 2, in order: those that its tokens are, form
+/// by form. The tokens are borrowed from the text.
 ///
 /// # Errors
 ///
@@ -207,5 +208,5 @@ pub fn read_items(alloc: Global, text: &[u8]) -> Result<Vec<Item<'_>>, ItemFault
     // No step of the grammar takes the token there, or the text can't end.
     ensures fault { IfErr result (λ fault. IfSyntax fault (IsSyntaxFault text.now)) }
 {
-    read_text_items(alloc, text)
+    read_items_by_steps(alloc, text)
 }

@@ -12,7 +12,7 @@ use crate::token::Token;
 use std::alloc::{AllocError, Global};
 use std::simd::prelude::*;
 
-fn begins_word(octet: u8) -> bool
+fn can_begin_word(octet: u8) -> bool
     ensures { result ≡ begins_word octet }
 {
     octet.is_ascii_alphanumeric()
@@ -24,14 +24,14 @@ fn is_word_octet(octet: u8) -> bool
     octet.is_ascii_alphanumeric() || octet == b'-'
 }
 
-fn is_space(octet: u8) -> bool
+fn is_space_tab_or_return(octet: u8) -> bool
     ensures { result ≡ is_space octet }
 {
     octet == b' ' || octet == b'\t' || octet == b'\r'
 }
 
 /// How many octets of a word the text begins with.
-fn word_len(text: &[u8]) -> usize
+fn first_word_len(text: &[u8]) -> usize
     ensures { result ≡ prefix_len goes_on text.now }
 {
     let mut n = 0;
@@ -83,7 +83,7 @@ fn word_len_of_few(text: &[u8]) -> usize
 }
 
 /// How many octets stand before the end of the line.
-fn line_len(text: &[u8]) -> usize
+fn len_to_line_end(text: &[u8]) -> usize
     ensures value { result ≡ prefix_len not_line_end text.now }
     ensures within { result ≤ length text.now }
 {
@@ -101,8 +101,8 @@ fn first_lexeme(text: &[u8]) -> (Symbol, usize)
     ensures within { result.1 ≤ length text.now }
     ensures some { 0 < result.1 }
 {
-    if begins_word(text[0]) {
-        let len = word_len(text);
+    if can_begin_word(text[0]) {
+        let len = first_word_len(text);
         (symbol_of_word(&text[..len]), len)
     } else if text.starts_with(b"::=") {
         (Symbol::Define, 3)
@@ -125,10 +125,10 @@ fn next_token(text: &[u8], at: usize, line: usize) -> Option<(Token<'_>, usize)>
         if first == b'\n' {
             at += 1;
             line += 1;
-        } else if is_space(first) {
+        } else if is_space_tab_or_return(first) {
             at += 1;
         } else if first == b';' {
-            at += line_len(&text[at..]);
+            at += len_to_line_end(&text[at..]);
         } else {
             let (symbol, len) = first_lexeme(&text[at..]);
             let token = Token {
@@ -158,7 +158,7 @@ pub(crate) fn read_tokens(alloc: Global, text: &[u8]) -> Result<Vec<Token<'_>>, 
 }
 
 /// The line of the last octet, from 1: a last line feed begins no line.
-pub(crate) fn last_line(text: &[u8]) -> usize
+pub(crate) fn last_line_number(text: &[u8]) -> usize
     ensures { result ≡ last_line text.now }
 {
     match text.split_last() {

@@ -27,7 +27,10 @@ pub use item::{
     VendorWord,
 };
 pub use items::read_items;
-pub use law::{first_version_law, items_law, syntax_law, words_law};
+pub use law::{
+    items_are_what_steps_take, tokens_are_items_or_have_a_fault, unmarked_items_are_first_version,
+    words_beyond_digits_are_names,
+};
 pub use reading::Version;
 pub use symbol::Symbol;
 pub use terminal::Terminal;

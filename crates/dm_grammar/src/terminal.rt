@@ -34,7 +34,7 @@ fn is_name_symbol(symbol: Symbol) -> bool
 }
 
 /// Whether a step that takes the terminal takes a token of the symbol.
-pub(crate) fn fits(terminal: Terminal, symbol: Symbol) -> bool
+pub(crate) fn terminal_takes_symbol(terminal: Terminal, symbol: Symbol) -> bool
     ensures { result ≡ fits terminal symbol }
 {
     match terminal {

@@ -11,12 +11,12 @@ use crate::first_tokens::{expect_two_tokens, same_tokens};
 use crate::item::ValueItem;
 use crate::reading::Reading;
 use crate::symbol::Symbol;
-use crate::terminal::{Terminal, fits};
+use crate::terminal::{Terminal, terminal_takes_symbol};
 use crate::token::Token;
 use std::alloc::Global;
 
 /// `,` before another value, or `}`: whether another value follows.
-fn read_value_end<'t, 'a>(
+fn read_comma_or_list_end<'t, 'a>(
     tokens: &'t [Token<'a>],
     how: Reading,
 ) -> Result<(bool, &'t [Token<'a>]), usize>
@@ -28,9 +28,9 @@ fn read_value_end<'t, 'a>(
     let Some((first, rest)) = tokens.split_first() else {
         return Err(how.last);
     };
-    if fits(Terminal::One(Symbol::Comma), first.symbol) {
+    if terminal_takes_symbol(Terminal::One(Symbol::Comma), first.symbol) {
         Ok((true, rest))
-    } else if fits(Terminal::One(Symbol::CloseBrace), first.symbol) {
+    } else if terminal_takes_symbol(Terminal::One(Symbol::CloseBrace), first.symbol) {
         Ok((false, rest))
     } else {
         Err(first.line)
@@ -38,7 +38,7 @@ fn read_value_end<'t, 'a>(
 }
 
 /// A value, and whether another follows: name number, and `,` or `}`.
-fn read_value<'t, 'a>(
+fn read_value_item_and_end<'t, 'a>(
     tokens: &'t [Token<'a>],
     how: Reading,
 ) -> Result<((ValueItem<'a>, bool), &'t [Token<'a>]), usize>
@@ -54,7 +54,7 @@ fn read_value<'t, 'a>(
         Terminal::AnyName,
         Terminal::One(Symbol::Number),
     )?;
-    let (more, rest) = read_value_end(rest, how)?;
+    let (more, rest) = read_comma_or_list_end(rest, how)?;
     let value = ValueItem {
         name: words.0,
         number: words.1,
@@ -63,7 +63,7 @@ fn read_value<'t, 'a>(
 }
 
 /// The values behind `{`, up to `}`: value *("," value); none where there is no list.
-pub(crate) fn read_values<'t, 'a>(
+pub(crate) fn read_value_list<'t, 'a>(
     alloc: Global,
     tokens: &'t [Token<'a>],
     how: Reading,
@@ -79,7 +79,7 @@ pub(crate) fn read_values<'t, 'a>(
     let mut rest = tokens;
     let mut more = list;
     while more {
-        match read_value(rest, how) {
+        match read_value_item_and_end(rest, how) {
             Ok(((value, goes_on), after)) => {
                 found.push(value).map_err(|_| ItemFault::NoMemory)?;
                 rest = same_tokens(after);

@@ -16,7 +16,7 @@ use crate::terminal::Terminal;
 use crate::token::Token;
 
 /// Whether the tokens behind `@` are the word `vendor` and a name: in a text of version 2 they begin a vendor.
-pub(crate) fn begins_vendor(tokens: &[Token<'_>], how: Reading) -> bool
+pub(crate) fn begins_vendor_item(tokens: &[Token<'_>], how: Reading) -> bool
     ensures { result ≡ begins_vendor how.version (view_words tokens.now) }
 {
     match how.version {

@@ -7,93 +7,94 @@ ghost use Rattle.dm_history.specs.Staying.{EachOpenStays, EachOpenLasts, EachCou
 ghost use Rattle.dm_history.specs.Opened.{EachOpeningWasAsked};
 
 use dm_machine::laws::{
-    each_answer_has_its_request, each_connection_changes_as_allowed, each_hold_is_caused,
-    each_node_has_its_form, each_opening_has_its_message, each_order_is_a_command,
-    each_step_is_one_of_few, open_connections_carry, unread_words_are_alike,
+    ceas_open_and_what_is_given_up_is_closed, dwas_dpas_and_refusals_have_requests,
+    each_connection_changes_as_allowed, each_order_is_a_command, few_steps_stand_for_all,
+    made_taken_and_open_connections_have_causes, open_connections_carry_user_messages,
+    shaped_nodes_have_eight_forms, what_unread_messages_say_makes_no_difference,
 };
-use dm_peer::laws::{each_event_is_a_case, each_event_keeps_settled};
+use dm_peer::laws::{each_event_keeps_peers_settled, events_are_steps_drops_or_refusals};
 
 /// A peer is open only on a connection that was opened as RFC 6733, 5.6, asks: on an accepted one after a good CER, the
 /// first message there since it last was closed or told ended, or ever, and the CEA that answers it; on an initiated
 /// one after the own CER, sent at its Ack, and a good CEA of its number.
-pub fn each_opening_was_asked()
+pub fn each_opening_follows_cer_and_cea()
     ensures { EachOpeningWasAsked }
 {
-    each_event_keeps_settled();
-    each_node_has_its_form();
-    each_hold_is_caused();
-    each_opening_has_its_message();
+    each_event_keeps_peers_settled();
+    shaped_nodes_have_eight_forms();
+    made_taken_and_open_connections_have_causes();
+    ceas_open_and_what_is_given_up_is_closed();
     each_order_is_a_command();
-    unread_words_are_alike();
+    what_unread_messages_say_makes_no_difference();
 }
 
 /// What a peer hands up came just then on the one connection on which it is open, where each message of another command
 /// than 257, 280 and 282 is handed up, and no other; what it sends is its own base message, or one of another command
 /// that was submitted just then and goes on that connection.
-pub fn each_run_carries()
+pub fn each_run_carries_user_messages()
     ensures { EachRunCarries }
 {
-    each_event_keeps_settled();
-    each_node_has_its_form();
-    each_hold_is_caused();
-    each_opening_has_its_message();
-    each_answer_has_its_request();
+    each_event_keeps_peers_settled();
+    shaped_nodes_have_eight_forms();
+    made_taken_and_open_connections_have_causes();
+    ceas_open_and_what_is_given_up_is_closed();
+    dwas_dpas_and_refusals_have_requests();
     each_order_is_a_command();
-    unread_words_are_alike();
-    open_connections_carry();
+    what_unread_messages_say_makes_no_difference();
+    open_connections_carry_user_messages();
 }
 
 /// A connection that has ended, by a Close of the peer, its disconnect, or its Nack before it was made, stays unheld,
 /// and nothing is sent on it, until an event names it again. Behind a Close at the same event nothing is sent on its
 /// connection. Both whatever else the driver does.
-pub fn each_end_is_last()
+pub fn ended_connections_stay_silent_until_named()
     ensures last { EachEndIsLast }
     ensures behind { NothingFollowsClose }
 {
     each_connection_changes_as_allowed();
-    each_event_keeps_settled();
-    each_opening_has_its_message();
+    each_event_keeps_peers_settled();
+    ceas_open_and_what_is_given_up_is_closed();
     each_order_is_a_command();
 }
 
 /// From any peer on, through every list of events: what is handed up is just the messages of other commands than 257,
 /// 280 and 282 that came on the connection on which the peer was open, each once, in order, octet for octet.
-pub fn each_run_is_in_order()
+pub fn each_run_hands_up_in_order()
     ensures { EachRunIsInOrder }
 {
-    each_event_keeps_settled();
-    open_connections_carry();
+    each_event_keeps_peers_settled();
+    open_connections_carry_user_messages();
 }
 
 /// An open connection stays open exactly at all events but these: a Stop, its disconnect, the third Tick since
 /// something came on it, octets on it that are no message, a CER on it, good or not, and a good DPR. So it is open
 /// until one of these is told.
-pub fn each_open_stays()
+pub fn only_listed_events_end_open_connections()
     ensures exactly { EachOpenStays }
     ensures lasts { EachOpenLasts }
 {
-    each_event_is_a_case();
-    each_event_keeps_settled();
-    each_node_has_its_form();
+    events_are_steps_drops_or_refusals();
+    each_event_keeps_peers_settled();
+    shaped_nodes_have_eight_forms();
 }
 
 /// The watchdog's count of an open peer is that of the Ticks since something came on its connection, or since it was
 /// opened. An answer that nothing awaits is dropped, and counts as nothing that came.
-pub fn each_count_is_of_ticks()
+pub fn watchdogs_count_ticks_since_something_came()
     ensures { EachCountIsOfTicks }
 {
-    each_event_is_a_case();
-    each_event_keeps_settled();
-    each_node_has_its_form();
-    each_step_is_one_of_few();
+    events_are_steps_drops_or_refusals();
+    each_event_keeps_peers_settled();
+    shaped_nodes_have_eight_forms();
+    few_steps_stand_for_all();
 }
 
 /// Each Submit that is done is one Send of its octets, on the connection on which the peer is open, and nothing else is
 /// done.
-pub fn each_submit_is_sent()
+pub fn each_done_submit_is_sent_once()
     ensures once { EachSubmitIsSent }
     ensures throughout { EachRunSends }
 {
-    each_event_keeps_settled();
-    each_node_has_its_form();
+    each_event_keeps_peers_settled();
+    shaped_nodes_have_eight_forms();
 }

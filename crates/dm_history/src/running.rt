@@ -12,11 +12,13 @@ ghost use Rattle.dm_history.specs.Staying.{never_ends, ticks_since};
 ghost use Rattle.dm_history.specs.Telling.{RepliesSo, Replied, events_told, run_of};
 
 use crate::laws::{
-    each_count_is_of_ticks, each_end_is_last, each_open_stays, each_opening_was_asked,
-    each_run_carries, each_run_is_in_order, each_submit_is_sent,
+    each_done_submit_is_sent_once, each_opening_follows_cer_and_cea,
+    each_run_carries_user_messages, each_run_hands_up_in_order,
+    ended_connections_stay_silent_until_named, only_listed_events_end_open_connections,
+    watchdogs_count_ticks_since_something_came,
 };
 use dm_dict::NoMemory;
-use dm_peer::laws::every_peer_is_kept;
+use dm_peer::laws::every_peer_is_settled_with_fitting_numbers;
 use dm_peer::{Actions, Event, Peer, PeerFault};
 use std::alloc::Global;
 
@@ -29,7 +31,7 @@ pub struct Report {
 }
 
 /// What the peer does at the event, or the rule by which it refuses it. It is as it was where memory was wanted.
-fn reply_of_peer(
+fn tell_peer_and_get_reply(
     peer: &mut Peer,
     alloc: Global,
     event: Event<'_>,
@@ -45,7 +47,7 @@ fn reply_of_peer(
 }
 
 /// Makes room for one reply more.
-fn reserve_reply(replies: &mut Vec<Result<Actions, PeerFault>>) -> Result<(), NoMemory>
+fn reserve_room_for_reply(replies: &mut Vec<Result<Actions, PeerFault>>) -> Result<(), NoMemory>
     ensures same { replies.new.items ≡ replies.old.items }
     ensures room { OnOk result (vec_len replies.new < vec_capacity replies.new) }
 {
@@ -56,7 +58,7 @@ fn reserve_reply(replies: &mut Vec<Result<Actions, PeerFault>>) -> Result<(), No
 }
 
 /// Tells the peer of the event, and appends its reply. Where memory is wanted all is as it was.
-fn tell_event(
+fn tell_event_and_push_reply(
     peer: &mut Peer,
     alloc: Global,
     event: Event<'_>,
@@ -69,21 +71,21 @@ fn tell_event(
     ensures peer { OnErr result (peer.new ≡ peer.old) }
     ensures replies { OnErr result (replies.new.items ≡ replies.old.items) }
 {
-    reserve_reply(replies)?;
-    let reply = reply_of_peer(peer, alloc, event)?;
+    reserve_room_for_reply(replies)?;
+    let reply = tell_peer_and_get_reply(peer, alloc, event)?;
     replies.push_reserved(reply);
     Ok(())
 }
 
 /// Tells a peer the events, one after the other, up to the first for which memory is wanted.
-fn tell_events(peer: &mut Peer, alloc: Global, events: &[Event<'_>]) -> Report
+fn tell_events_while_memory_lasts(peer: &mut Peer, alloc: Global, events: &[Event<'_>]) -> Report
     ensures few { length result.replies.items ≤ length events.now }
     ensures replied { Replied peer.old (events_told events.now result.replies.items)
         (reverse result.replies.items) peer.new }
 {
     let mut replies = Vec::new(alloc);
     for event in events {
-        match tell_event(peer, alloc, *event, &mut replies) {
+        match tell_event_and_push_reply(peer, alloc, *event, &mut replies) {
             Ok(()) => {}
             Err(_) => break,
         }
@@ -124,13 +126,13 @@ pub fn run(peer: &mut Peer, alloc: Global, events: &[Event<'_>]) -> Report
     ensures counted { (c : Conn) → StandsOpen peer.new c →
         peer.new.standing.core.count ≡ ticks_since peer.old c (run_of events.now result.replies.items) }
 {
-    each_opening_was_asked();
-    each_run_carries();
-    each_end_is_last();
-    each_run_is_in_order();
-    each_submit_is_sent();
-    each_open_stays();
-    each_count_is_of_ticks();
-    every_peer_is_kept(peer);
-    tell_events(peer, alloc, events)
+    each_opening_follows_cer_and_cea();
+    each_run_carries_user_messages();
+    ended_connections_stay_silent_until_named();
+    each_run_hands_up_in_order();
+    each_done_submit_is_sent_once();
+    only_listed_events_end_open_connections();
+    watchdogs_count_ticks_since_something_came();
+    every_peer_is_settled_with_fitting_numbers(peer);
+    tell_events_while_memory_lasts(peer, alloc, events)
 }

@@ -19,9 +19,9 @@ pub struct Ended<T> {
     pub told: bool,
 }
 
-/// Ends with this status, once the words stand on standard error, a line feed behind them; nothing stands there where
-/// there are no words.
-pub fn end_program<T, E: Write>(
+/// Writes the words to standard error, a line feed behind them, and nothing where there are none. It answers how the
+/// program ends then: with this outcome and this status.
+pub fn write_ending_words<T, E: Write>(
     outcome: Option<T>,
     status: u8,
     words: &str,

@@ -5,9 +5,9 @@ mod ended;
 mod words;
 mod written;
 
-pub use crate::ended::{Ended, end_program, exit_code};
-pub use crate::words::{WordsFault, program_words};
-pub use crate::written::write_text;
+pub use crate::ended::{Ended, exit_code, write_ending_words};
+pub use crate::words::{WordsFault, command_line_words};
+pub use crate::written::write_text_and_flush;
 
 /// How many octets a program reads at once, at most.
 pub const READ_AT_ONCE: usize = 65_536;

@@ -18,7 +18,7 @@ pub enum WordsFault {
 }
 
 /// The words after the program's name.
-pub fn program_words(rt: &(impl Env + AllocGlobal)) -> Result<Vec<String>, WordsFault> {
+pub fn command_line_words(rt: &(impl Env + AllocGlobal)) -> Result<Vec<String>, WordsFault> {
     match env::args(rt) {
         Ok(words) => words_after_first(rt.alloc(), words),
         Err(error) => Err(words_fault(error.kind())),

@@ -12,7 +12,7 @@ const SPARE_WRITES: usize = 67_108_864;
 /// Writes the text, and lets nothing of it wait in the writer. Where that fails, a front of the text was written.
 ///
 /// An interrupted write is made again, but for a writer that is interrupted without end.
-pub fn write_text<W: Write>(writer: &mut W, text: &[u8]) -> io::Result<()>
+pub fn write_text_and_flush<W: Write>(writer: &mut W, text: &[u8]) -> io::Result<()>
     ensures whole { OnOk result (Appends (W.contents writer.old) (W.contents writer.new) text.now) }
     ensures front { OnErr result ((front rest : List ℕ) × (text.now ≡ front ++ rest)
         × Appends (W.contents writer.old) (W.contents writer.new) front) }
@@ -54,8 +54,8 @@ pub(crate) fn write_line_if_any<E: Write>(words: &str, errors: &mut E) -> bool
     if words.is_empty() {
         return true;
     }
-    match write_text(errors, words.as_bytes()) {
-        Ok(()) => write_text(errors, b"\n").is_ok(),
+    match write_text_and_flush(errors, words.as_bytes()) {
+        Ok(()) => write_text_and_flush(errors, b"\n").is_ok(),
         Err(_) => false,
     }
 }

@@ -11,7 +11,8 @@ ghost use Rattle.dm_live.specs.Meetings.{meeting_of};
 ghost use Rattle.dm_live.specs.OrderLines.{order_asked};
 
 use crate::answer_lines::{
-    put_answer_states, put_event_answer, put_if_ignored, put_neighbour, put_order_refusal, put_turn,
+    put_answer_states, put_event_answer, put_ignored_if_event_order, put_neighbour_line,
+    put_order_refusal, put_turn,
 };
 use crate::asked::Asked;
 use crate::form::Form;
@@ -23,7 +24,7 @@ use std::alloc::{AllocError, Global};
 ///
 /// Behind a piece all that came on its connection is told, message by message. Where memory is wanted some of it may be
 /// told, and a front of the answer may stand in the text.
-pub fn answer_order(
+pub fn answer_order_or_piece(
     alloc: Global,
     form: Form,
     node: &mut Node,
@@ -35,13 +36,13 @@ pub fn answer_order(
         × Answers form asked.entry (meeting_of node.old) (meeting_of node.new) more
         × (string_bytes text.new ≡ string_bytes text.old ++ more)) }
 {
-    let who = take_order_or_piece(alloc, form, node, asked, answer, text)?;
+    let who = answer_order_or_keep_piece(alloc, form, node, asked, answer, text)?;
     let last = tell_if_piece(alloc, form, node, asked, who, answer, text)?;
     put_answer_states(text, form, node, asked, last)
 }
 
 /// Appends what is asked comes to by itself, and answers whom it concerns. A piece is kept.
-fn take_order_or_piece(
+fn answer_order_or_keep_piece(
     alloc: Global,
     form: Form,
     node: &mut Node,
@@ -54,7 +55,7 @@ fn take_order_or_piece(
         × (string_bytes text.new ≡ string_bytes text.old ++ own)) }
 {
     match asked {
-        Asked::Order(order) => take_order(alloc, form, node, order, answer, text),
+        Asked::Order(order) => answer_order(alloc, form, node, order, answer, text),
         Asked::Piece(conn, piece) => {
             node.keep(conn, piece)?;
             Ok(None)
@@ -63,7 +64,7 @@ fn take_order_or_piece(
 }
 
 /// Appends what an order comes to, and answers whom it concerns.
-fn take_order(
+fn answer_order(
     alloc: Global,
     form: Form,
     node: &mut Node,
@@ -79,7 +80,7 @@ fn take_order(
         Ok(()) => put_order_outcome(text, form, order, answer),
         Err(fault) => {
             let who = refusing_neighbour(order, fault);
-            put_neighbour(text, form, who)?;
+            put_neighbour_line(text, form, who)?;
             put_order_refusal(text, fault)?;
             Ok(who)
         }
@@ -99,7 +100,7 @@ fn put_order_outcome(
 {
     match answer.told {
         Told::Nothing => {
-            put_if_ignored(text, order)?;
+            put_ignored_if_event_order(text, order)?;
             Ok(neighbour_to_reset(order))
         }
         _ => {
@@ -161,14 +162,14 @@ fn tell_if_piece(
         × (string_bytes text.new ≡ string_bytes text.old ++ turns_lines form turns)) }
 {
     match asked {
-        Asked::Piece(conn, _) => tell_all_on_conn(alloc, form, node, conn, who, answer, text),
+        Asked::Piece(conn, _) => tell_all_that_came(alloc, form, node, conn, who, answer, text),
         Asked::Order(_) => Ok(who),
     }
 }
 
 /// Tells all that came on the connection, and appends what that comes to. Answers whom it concerned last, `who` where
 /// nobody.
-fn tell_all_on_conn(
+fn tell_all_that_came(
     alloc: Global,
     form: Form,
     node: &mut Node,
@@ -184,7 +185,7 @@ fn tell_all_on_conn(
 {
     let mut last = who;
     'turn: for _ in 0..u64::MAX {
-        if !tell_next_on_conn(alloc, form, node, conn, &mut last, answer, text)? {
+        if !tell_next_that_came(alloc, form, node, conn, &mut last, answer, text)? {
             return Ok(last);
         }
     }
@@ -194,7 +195,7 @@ fn tell_all_on_conn(
 
 /// Tells the next message that came on the connection, or a fault, and appends what that comes to; `last` is whom it
 /// concerned, where it concerned anybody. False where there is none.
-fn tell_next_on_conn(
+fn tell_next_that_came(
     alloc: Global,
     form: Form,
     node: &mut Node,
@@ -212,14 +213,14 @@ fn tell_next_on_conn(
         × (string_bytes text.new ≡ string_bytes text.old)) }
 {
     match tell_turn(alloc, form, node, conn, answer) {
-        Ok(()) => put_turn_if_any(text, form, conn, last, answer),
+        Ok(()) => put_turn_and_set_last(text, form, conn, last, answer),
         Err(error) => Err(error),
     }
 }
 
 /// Appends what a turn of the connection comes to, if there was one, and answers whether; `last` is whom it concerned,
 /// where it concerned anybody.
-fn put_turn_if_any(
+fn put_turn_and_set_last(
     text: &mut String,
     form: Form,
     conn: Conn,

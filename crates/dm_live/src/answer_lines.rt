@@ -27,19 +27,19 @@ use std::alloc::AllocError;
 
 /// Appends the line of an action.
 #[tactic(auto, unfolding(crate::specs::AnswerLines::action_line))]
-fn put_action(text: &mut String, action: &Action) -> Result<(), AllocError>
+fn put_action_line(text: &mut String, action: &Action) -> Result<(), AllocError>
     ensures { OnOk result (string_bytes text.new ≡ string_bytes text.old ++ action_line action.now) }
 {
     match action {
         Action::Connect(conn) => put_number_and_end(text, "connect ", conn.0),
-        Action::Send(conn, octets) => put_sent_message(text, *conn, octets.as_slice()),
+        Action::Send(conn, octets) => put_send_line(text, *conn, octets.as_slice()),
         Action::Close(conn) => put_number_and_end(text, "close ", conn.0),
         Action::Up(octets) => put_octets_and_end(text, "up ", octets.as_slice()),
     }
 }
 
 /// Appends the line of a message that is sent.
-fn put_sent_message(text: &mut String, conn: Conn, message: &[u8]) -> Result<(), AllocError>
+fn put_send_line(text: &mut String, conn: Conn, message: &[u8]) -> Result<(), AllocError>
     ensures { OnOk result (string_bytes text.new ≡ string_bytes text.old
         ++ codes "send " ++ decimal conn.0 ++ codes " " ++ encode_lower message.now ++ 10 ∷ []) }
 {
@@ -49,18 +49,18 @@ fn put_sent_message(text: &mut String, conn: Conn, message: &[u8]) -> Result<(),
 }
 
 /// Appends the lines of actions, in order.
-fn put_actions(text: &mut String, actions: &[Action]) -> Result<(), AllocError>
+fn put_action_lines(text: &mut String, actions: &[Action]) -> Result<(), AllocError>
     ensures { OnOk result (string_bytes text.new ≡ string_bytes text.old ++ action_lines actions.now) }
 {
     for action in actions {
-        put_action(text, action)?;
+        put_action_line(text, action)?;
     }
     Ok(())
 }
 
 /// Appends that a whole message came on the connection, where that was told.
 #[tactic(auto, unfolding(crate::specs::AnswerLines::arrival_line))]
-fn put_arrival(text: &mut String, conn: Conn, told: Told) -> Result<(), AllocError>
+fn put_arrival_line_if_message(text: &mut String, conn: Conn, told: Told) -> Result<(), AllocError>
     ensures message { told ≡ Message
         → OnOk result (string_bytes text.new ≡ string_bytes text.old ++ arrival_line (Some conn)) }
     ensures other { (told ≡ Message → ⊥)
@@ -99,7 +99,11 @@ pub(crate) fn put_fault_answer(text: &mut String, number: u64, name: &str) -> Re
 
 /// Appends the connection, where one is held, behind its letter.
 #[tactic(auto, unfolding(crate::specs::AnswerLines::held_words))]
-fn put_held(text: &mut String, letter: &str, held: Option<Conn>) -> Result<(), AllocError>
+fn put_held_connection(
+    text: &mut String,
+    letter: &str,
+    held: Option<Conn>,
+) -> Result<(), AllocError>
     ensures { OnOk result (string_bytes text.new ≡ string_bytes text.old ++ held_words letter.now held) }
 {
     if let Some(conn) = held {
@@ -114,15 +118,15 @@ fn put_standing(text: &mut String, peer: &Peer) -> Result<(), AllocError>
     ensures { OnOk result (string_bytes text.new ≡ string_bytes text.old ++ standing_words peer.now) }
 {
     text.push_str(peer.state().name())?;
-    put_held(text, " i", peer.initiated())?;
-    put_held(text, " r", peer.accepted())?;
+    put_held_connection(text, " i", peer.initiated())?;
+    put_held_connection(text, " r", peer.accepted())?;
     text.push_str("\n")?;
     Ok(())
 }
 
 /// Appends which neighbour of several an event concerned, where it concerned one.
 #[tactic(auto, unfolding(crate::specs::Answers::neighbour_line))]
-pub(crate) fn put_neighbour(
+pub(crate) fn put_neighbour_line(
     text: &mut String,
     form: Form,
     index: Option<usize>,
@@ -145,8 +149,8 @@ pub(crate) fn put_event_answer(
     ensures { OnOk result (string_bytes text.new
         ≡ string_bytes text.old ++ event_lines form (as_answer answer.now)) }
 {
-    put_neighbour(text, form, answer.neighbour)?;
-    put_actions(text, answer.actions.as_slice())
+    put_neighbour_line(text, form, answer.neighbour)?;
+    put_action_lines(text, answer.actions.as_slice())
 }
 
 /// Appends the lines of a message of the connection that was told, or of a fault.
@@ -159,14 +163,17 @@ pub(crate) fn put_turn(
     ensures { OnOk result (IfSome (turn_in conn turn.now) (λ told. string_bytes text.new
         ≡ string_bytes text.old ++ turn_lines form told)) }
 {
-    put_neighbour(text, form, turn.neighbour)?;
-    put_arrival(text, conn, turn.told)?;
-    put_actions(text, turn.actions.as_slice())
+    put_neighbour_line(text, form, turn.neighbour)?;
+    put_arrival_line_if_message(text, conn, turn.told)?;
+    put_action_lines(text, turn.actions.as_slice())
 }
 
 /// Appends that an order told no event, where it is one of those that tell one.
 #[tactic(auto, unfolding(crate::specs::Answers::ignored_line))]
-pub(crate) fn put_if_ignored(text: &mut String, order: Order<'_>) -> Result<(), AllocError>
+pub(crate) fn put_ignored_if_event_order(
+    text: &mut String,
+    order: Order<'_>,
+) -> Result<(), AllocError>
     ensures { OnOk result (string_bytes text.new
         ≡ string_bytes text.old ++ ignored_line (order_asked order.entry).order) }
 {
@@ -227,7 +234,11 @@ fn put_all_states(text: &mut String, places: &[Option<Peer>]) -> Result<(), Allo
 
 /// Appends how the neighbour of the number stands, if there is one.
 #[tactic(auto, unfolding(crate::specs::Answers::state_line))]
-fn put_state_at(text: &mut String, node: &Node, index: Option<usize>) -> Result<(), AllocError>
+fn put_neighbour_state_if_any(
+    text: &mut String,
+    node: &Node,
+    index: Option<usize>,
+) -> Result<(), AllocError>
     ensures { OnOk result (string_bytes text.new
         ≡ string_bytes text.old ++ concerned_state_line index (node_state_of node.now).peers) }
 {
@@ -242,7 +253,7 @@ fn put_state_at(text: &mut String, node: &Node, index: Option<usize>) -> Result<
 
 /// Appends how the peer stands that is alone.
 #[tactic(auto, unfolding(crate::specs::Answers::state_line))]
-fn put_state_alone(text: &mut String, node: &Node) -> Result<(), AllocError>
+fn put_lone_peer_state(text: &mut String, node: &Node) -> Result<(), AllocError>
     ensures { OnOk result (string_bytes text.new
         ≡ string_bytes text.old ++ state_line Form.Alone 0 (peer_at (node_state_of node.now).peers 0)) }
 {
@@ -268,11 +279,11 @@ pub(crate) fn put_answer_states(
         ≡ string_bytes text.old ++ states_behind form asked.entry last (node_state_of node.now).peers) }
 {
     match (form, asked) {
-        (Form::Alone, _) => put_state_alone(text, node),
+        (Form::Alone, _) => put_lone_peer_state(text, node),
         (Form::Several, Asked::Order(Order::ResetAll)) => put_all_states(
             text,
             node.iter().as_slice(),
         ),
-        (Form::Several, _) => put_state_at(text, node, last),
+        (Form::Several, _) => put_neighbour_state_if_any(text, node, last),
     }
 }

@@ -1,4 +1,4 @@
-//! What who drives a node by lines tells it.
+//! What a line asks of a node: an order, or a piece that came on a connection.
 use dm_machine::Conn;
 use dm_node::Order;
 

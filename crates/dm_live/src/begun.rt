@@ -24,7 +24,7 @@ pub(crate) enum Begun {
 }
 
 /// What the configuration begins; and appends that it does, or why it begins nothing.
-pub(crate) fn begin_configured(
+pub(crate) fn begin_configured_node(
     alloc: Global,
     draft: &Draft,
     number: u64,
@@ -33,7 +33,7 @@ pub(crate) fn begin_configured(
     ensures { IfOk result (λ begun. (answer : List ℕ) × IsBegun number (settings_of draft.now) begun answer
         × (string_bytes text.new ≡ string_bytes text.old ++ answer)) }
 {
-    match draft.config(alloc)? {
+    match draft.config_for_first_peer(alloc)? {
         Ok(config) => begin_node(alloc, draft, config, number, text),
         Err(name) => refuse_to_begin(number, name, text),
     }

@@ -23,7 +23,7 @@ use dm_text::Words;
 use dm_value::Ip;
 use dm_wire::Octets;
 use dm_wire::codes::limits::MAX_MESSAGE_LEN;
-use dm_words::{two_numbers, word_alone};
+use dm_words::{only_two_numbers_left, only_word_left};
 use std::alloc::{AllocError, Global};
 
 /// What the lines so far say.
@@ -73,14 +73,14 @@ impl Draft {
     }
 
     /// The most octets of a message before the capabilities exchange.
-    pub(crate) fn early_message_len(&self) -> u32
+    pub(crate) fn max_early_message_len(&self) -> u32
         ensures { result ≡ (settings_of self.now).first_max }
     {
         self.first_max
     }
 
     /// The most octets of a message behind the capabilities exchange.
-    pub(crate) fn most_message_len(&self) -> u32
+    pub(crate) fn max_later_message_len(&self) -> u32
         ensures { result ≡ (settings_of self.now).most }
     {
         self.most
@@ -116,7 +116,7 @@ impl Draft {
             → TellsSpecific (specific_word accounting ∷ words left.old) (settings_of self.old) t → ⊥) }
         ensures kept { IfOk result (λ good. good ≡ false → settings_of self.new ≡ settings_of self.old) }
     {
-        let Some((vendor, application)) = two_numbers(left) else {
+        let Some((vendor, application)) = only_two_numbers_left(left) else {
             return Ok(false);
         };
         self.applications.push(VendorApplication {
@@ -138,14 +138,14 @@ impl Draft {
         let Some(name) = read_setting_name(word) else {
             return Ok(false);
         };
-        let Some(value) = word_alone(left) else {
+        let Some(value) = only_word_left(left) else {
             return Ok(false);
         };
-        self.take_value(name, value)
+        self.take_setting_value(name, value)
     }
 
     /// Goes on with what a word says behind a name. False where it says nothing.
-    fn take_value(&mut self, name: SettingName, word: &[u8]) -> Result<bool, AllocError>
+    fn take_setting_value(&mut self, name: SettingName, word: &[u8]) -> Result<bool, AllocError>
         ensures told { IfOk result (λ good. good ≡ true
             → Sets name word.now (settings_of self.old) (settings_of self.new)) }
         ensures bad { IfOk result (λ good. good ≡ false
@@ -196,7 +196,10 @@ impl Draft {
     }
 
     /// The configuration for the first peer, or the name of why there is none.
-    pub(crate) fn config(&self, alloc: Global) -> Result<Result<Config, &'static str>, AllocError>
+    pub(crate) fn config_for_first_peer(
+        &self,
+        alloc: Global,
+    ) -> Result<Result<Config, &'static str>, AllocError>
         ensures made { IfOk result (λ made. IfOk made (λ config.
             IsConfiguredFor (settings_of self.now) (first_told (settings_of self.now).peers) config)) }
         ensures good { IfOk result (λ made. OnOk made (node_told_fault (settings_of self.now) ≡ None)) }
@@ -204,8 +207,8 @@ impl Draft {
             (first_told (settings_of self.now).peers) ≡ None)) }
         ensures fault { IfOk result (λ made. IfErr made (λ name. go_fault (settings_of self.now) ≡ Some name.now)) }
     {
-        match self.node(alloc)? {
-            Ok(node) => match self.extended_node(alloc, node) {
+        match self.node_without_extras(alloc)? {
+            Ok(node) => match self.node_with_extras(alloc, node) {
                 Ok(node) => self.config_of_node(alloc, node),
                 Err(ExtrasFault::TooLong) => Ok(Err("TooLong")),
                 Err(ExtrasFault::NoMemory) => Err(AllocError),
@@ -230,13 +233,13 @@ impl Draft {
     {
         let peer = Vec::from_slice(alloc, self.first_peer_host())?;
         match Config::new(alloc, node, peer, self.first_id) {
-            Ok(config) => Ok(Ok(self.comparing_if_set(config))),
+            Ok(config) => Ok(Ok(self.with_comparison_if_set(config))),
             Err(fault) => Ok(Err(config_fault_name(fault)?)),
         }
     }
 
     /// The configuration, which compares the host that a CEA names where the lines say so.
-    fn comparing_if_set(&self, config: Config) -> Config
+    fn with_comparison_if_set(&self, config: Config) -> Config
         ensures node { result.node ≡ config.node }
         ensures peer { result.peer ≡ config.peer }
         ensures first_id { result.first_id ≡ config.first_id }
@@ -260,7 +263,7 @@ impl Draft {
     }
 
     /// The node with the extras that the lines say, if they say any.
-    fn extended_node(&self, alloc: Global, node: Node) -> Result<Node, ExtrasFault>
+    fn node_with_extras(&self, alloc: Global, node: Node) -> Result<Node, ExtrasFault>
         requires { IsOwnOf (settings_of self.now) node }
         ensures made { IfOk result (λ made. IsNodeOf (settings_of self.now) made) }
         ensures good { OnOk result (are_extras_long (settings_of self.now).applications (settings_of self.now).vendors
@@ -298,7 +301,7 @@ impl Draft {
     }
 
     /// The node that the lines tell, but for what they say of it beyond, or why there is none.
-    fn node(&self, alloc: Global) -> Result<Result<Node, NodeFault>, AllocError>
+    fn node_without_extras(&self, alloc: Global) -> Result<Result<Node, NodeFault>, AllocError>
         ensures made { IfOk result (λ made. IfOk made (λ node. IsOwnOf (settings_of self.now) node)) }
         ensures fault { IfOk result (λ made. result_err made ≡ own_fault (settings_of self.now)) }
     {

@@ -19,7 +19,7 @@ pub fn next_line<R: BufRead>(reader: &mut R, line: &mut Vec<u8>) -> Result<bool,
     line.clear();
     'piece: for _ in 0..u64::MAX {
         if extend_line(reader, line)? {
-            return Ok(strip_unless_empty(line));
+            return Ok(remove_end_unless_empty(line));
         }
     }
     Err(LiveFault::Read)
@@ -69,7 +69,7 @@ fn line_part_end(octets: &[u8]) -> (usize, bool)
 }
 
 /// Takes the end of a line off. False where there is none, as nothing was left.
-fn strip_unless_empty(line: &mut Vec<u8>) -> bool
+fn remove_end_unless_empty(line: &mut Vec<u8>) -> bool
     ensures none { result ≡ false → length line.old.items ≡ 0 }
     ensures some { result ≡ true → (0 < length line.old.items) }
     ensures line { result ≡ true → line.new.items ≡ without_end line.old.items }

@@ -22,12 +22,12 @@ mod serve;
 mod setting_name;
 mod setting_words;
 
-pub use crate::answer::answer_order;
+pub use crate::answer::answer_order_or_piece;
 pub use crate::asked::Asked;
 pub use crate::fault::LiveFault;
 pub use crate::form::Form;
 pub use crate::input::next_line;
-pub use crate::order_line::{OrderLine, read_order};
+pub use crate::order_line::{OrderLine, read_order_line};
 pub use crate::order_name::OrderName;
 pub use crate::program::{Ended, run_program};
 pub use crate::serve::serve_lines;

@@ -8,12 +8,12 @@ ghost use Rattle.dm_live.specs.Served.{AnswersSetting, AnswersOrder, AnswersLine
 ghost use Rattle.dm_live.specs.Settings.{no_settings};
 ghost use Rattle.dm_live.specs.Stages.{stage_of};
 
-use crate::answer::answer_order;
+use crate::answer::answer_order_or_piece;
 use crate::answer_lines::put_fault_answer;
-use crate::begun::{Begun, begin_configured};
+use crate::begun::{Begun, begin_configured_node};
 use crate::configuration::Draft;
 use crate::form::Form;
-use crate::order_line::read_order;
+use crate::order_line::read_order_line;
 use crate::sender_lines::{put_sender_answer, read_sender_line};
 use dm_node::{Answer, Node};
 use dm_text::Words;
@@ -54,10 +54,18 @@ impl Live {
             × (string_bytes text.new ≡ string_bytes text.old ++ answer)) }
     {
         if let Begun::Running(form, node) = &mut self.begun {
-            return answer_running_line(alloc, *form, node, &mut self.answer, number, line, text);
+            return answer_line_by_running_node(
+                alloc,
+                *form,
+                node,
+                &mut self.answer,
+                number,
+                line,
+                text,
+            );
         }
         if is_go(line) {
-            let begun = begin_configured(alloc, &self.draft, number, text)?;
+            let begun = begin_configured_node(alloc, &self.draft, number, text)?;
             self.set_begun(begun);
             return Ok(());
         }
@@ -105,7 +113,7 @@ fn take_or_refuse_line(
 }
 
 /// Answers whom a neighbour met, or tells the order of a line and answers it, or answers a bad line.
-fn answer_running_line(
+fn answer_line_by_running_node(
     alloc: Global,
     form: Form,
     node: &mut Node,
@@ -122,9 +130,9 @@ fn answer_running_line(
         put_sender_answer(alloc, text, node.known(index))?;
         return text.push_str(".\n");
     }
-    match read_order(alloc, form, line)? {
+    match read_order_line(alloc, form, line)? {
         Some(order) => {
-            answer_order(alloc, form, node, order.asked(), answer, text)?;
+            answer_order_or_piece(alloc, form, node, order.as_order_or_piece(), answer, text)?;
             text.push_str(".\n")
         }
         None => put_fault_answer(text, number, "Syntax"),

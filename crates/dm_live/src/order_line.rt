@@ -8,8 +8,8 @@ use crate::asked::Asked;
 use crate::form::Form;
 use crate::order_name::{OrderName, read_order_name};
 use crate::order_words::{
-    conn_alone, conn_and_word, neighbour_and_cause, neighbour_and_conn, neighbour_and_nothing,
-    neighbour_and_word, none_left,
+    conn_and_word, neighbour_and_cause, neighbour_and_conn, neighbour_and_word, no_word_left,
+    only_conn_left, only_neighbour_left,
 };
 use dm_base::Cause;
 use dm_machine::Conn;
@@ -37,7 +37,7 @@ pub enum OrderLine {
 
 impl OrderLine {
     /// What it asks of a node. It never answers want of memory.
-    pub fn asked(&self) -> Asked<'_>
+    pub fn as_order_or_piece(&self) -> Asked<'_>
         ensures { node_asked result ≡ told_order self.now }
     {
         match self {
@@ -61,7 +61,11 @@ impl OrderLine {
 }
 
 /// The order that a line tells; None where it tells none.
-pub fn read_order(alloc: Global, form: Form, line: &[u8]) -> Result<Option<OrderLine>, AllocError>
+pub fn read_order_line(
+    alloc: Global,
+    form: Form,
+    line: &[u8],
+) -> Result<Option<OrderLine>, AllocError>
     ensures { IfOk result (λ read. MatchOption read
         ((o : OneAsked) → TellsOrder form (node_asked o) line.now → ⊥)
         (λ o. TellsOrder form (told_order o) line.now)) }
@@ -93,12 +97,12 @@ fn read_order_of_name(form: Form, name: OrderName, left: &mut Words<'_>) -> Opti
             let (index, conn) = neighbour_and_conn(form, left)?;
             Some(OrderLine::Start(index, conn))
         }
-        OrderName::Ack => Some(OrderLine::Ack(conn_alone(left)?)),
-        OrderName::Nack => Some(OrderLine::Nack(conn_alone(left)?)),
-        OrderName::Accept => Some(OrderLine::Accept(conn_alone(left)?)),
-        OrderName::Gone => Some(OrderLine::Gone(conn_alone(left)?)),
-        OrderName::Timeout => Some(OrderLine::Timeout(neighbour_and_nothing(form, left)?)),
-        OrderName::Tick => Some(OrderLine::Tick(neighbour_and_nothing(form, left)?)),
+        OrderName::Ack => Some(OrderLine::Ack(only_conn_left(left)?)),
+        OrderName::Nack => Some(OrderLine::Nack(only_conn_left(left)?)),
+        OrderName::Accept => Some(OrderLine::Accept(only_conn_left(left)?)),
+        OrderName::Gone => Some(OrderLine::Gone(only_conn_left(left)?)),
+        OrderName::Timeout => Some(OrderLine::Timeout(only_neighbour_left(form, left)?)),
+        OrderName::Tick => Some(OrderLine::Tick(only_neighbour_left(form, left)?)),
         OrderName::Stop => {
             let (index, cause) = neighbour_and_cause(form, left)?;
             Some(OrderLine::Stop(index, cause))
@@ -114,7 +118,7 @@ fn read_reset(form: Form, left: &mut Words<'_>) -> Option<OrderLine>
         → TellsNamed form OrderName.Reset (node_asked o) (words left.old) → ⊥) }
 {
     match form {
-        Form::Alone if none_left(left) => Some(OrderLine::ResetAll),
+        Form::Alone if no_word_left(left) => Some(OrderLine::ResetAll),
         Form::Alone => None,
         Form::Several => read_reset_of_several(left),
     }

@@ -11,7 +11,7 @@ use crate::form::Form;
 use dm_base::Cause;
 use dm_machine::Conn;
 use dm_text::{Words, read_long_number};
-use dm_words::{next_long_number, read_cause, word_alone};
+use dm_words::{next_long_number, only_word_left, read_disconnect_cause};
 
 /// The connection whose number the next word tells; None where it tells none.
 fn next_conn(left: &mut Words<'_>) -> Option<Conn>
@@ -25,7 +25,7 @@ fn next_conn(left: &mut Words<'_>) -> Option<Conn>
 }
 
 /// The connection that the next word tells; None where it tells none, or another word follows.
-pub(crate) fn conn_alone(left: &mut Words<'_>) -> Option<Conn>
+pub(crate) fn only_conn_left(left: &mut Words<'_>) -> Option<Conn>
     ensures told { IfSome result (λ c. TellsConn c (words left.old)) }
     ensures none { IfNone result ((n : ℕ) (number : List ℕ) → words left.old ≡ number ∷ []
         → TellsLongNumber n number → ⊥) }
@@ -45,7 +45,7 @@ pub(crate) fn conn_and_word<'a>(left: &mut Words<'a>) -> Option<(Conn, &'a [u8])
         → TellsLongNumber n number → ⊥) }
 {
     let conn = next_conn(left)?;
-    let word = word_alone(left)?;
+    let word = only_word_left(left)?;
     Some((conn, word))
 }
 
@@ -63,12 +63,16 @@ fn next_neighbour(form: Form, left: &mut Words<'_>) -> Option<usize>
 }
 
 /// The neighbour of the order; None where none is named, or another word follows.
-pub(crate) fn neighbour_and_nothing(form: Form, left: &mut Words<'_>) -> Option<usize>
+pub(crate) fn only_neighbour_left(form: Form, left: &mut Words<'_>) -> Option<usize>
     ensures told { IfSome result (λ i. NamesNeighbour form i (words left.old) []) }
     ensures none { IfNone result ((n : ℕ) → NamesNeighbour form n (words left.old) [] → ⊥) }
 {
     let index = next_neighbour(form, left)?;
-    if none_left(left) { Some(index) } else { None }
+    if no_word_left(left) {
+        Some(index)
+    } else {
+        None
+    }
 }
 
 /// The neighbour of the order, and the connection behind it; None where the words are others.
@@ -79,7 +83,7 @@ pub(crate) fn neighbour_and_conn(form: Form, left: &mut Words<'_>) -> Option<(us
         → NamesNeighbour form n (words left.old) more → TellsConn c more → ⊥) }
 {
     let index = next_neighbour(form, left)?;
-    let conn = conn_alone(left)?;
+    let conn = only_conn_left(left)?;
     Some((index, conn))
 }
 
@@ -91,7 +95,7 @@ pub(crate) fn neighbour_and_cause(form: Form, left: &mut Words<'_>) -> Option<(u
         → NamesNeighbour form n (words left.old) (number ∷ []) → TellsNumber (cause_number cause) number → ⊥) }
 {
     let index = next_neighbour(form, left)?;
-    let cause = cause_alone(left)?;
+    let cause = only_cause_left(left)?;
     Some((index, cause))
 }
 
@@ -102,22 +106,22 @@ pub(crate) fn neighbour_and_word<'a>(form: Form, left: &mut Words<'a>) -> Option
         → NamesNeighbour form n (words left.old) (word ∷ []) → ⊥) }
 {
     let index = next_neighbour(form, left)?;
-    let word = word_alone(left)?;
+    let word = only_word_left(left)?;
     Some((index, word))
 }
 
 /// The cause whose number is the only word left; None where it isn't.
-pub(crate) fn cause_alone(left: &mut Words<'_>) -> Option<Cause>
+pub(crate) fn only_cause_left(left: &mut Words<'_>) -> Option<Cause>
     ensures told { IfSome result (λ cause. (number : List ℕ) × (words left.old ≡ number ∷ [])
         × TellsNumber (cause_number cause) number) }
     ensures none { IfNone result ((cause : Cause) (number : List ℕ) → words left.old ≡ number ∷ []
         → TellsNumber (cause_number cause) number → ⊥) }
 {
-    read_cause(word_alone(left)?)
+    read_disconnect_cause(only_word_left(left)?)
 }
 
 /// Whether no word is left.
-pub(crate) fn none_left(left: &mut Words<'_>) -> bool
+pub(crate) fn no_word_left(left: &mut Words<'_>) -> bool
     ensures told { result ≡ true → words left.old ≡ [] }
     ensures none { result ≡ false → words left.old ≡ [] → ⊥ }
 {

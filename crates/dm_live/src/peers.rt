@@ -88,8 +88,8 @@ pub(crate) fn node_with_peers(
     let mut node = Node::new(
         alloc,
         own,
-        draft.early_message_len(),
-        draft.most_message_len(),
+        draft.max_early_message_len(),
+        draft.max_later_message_len(),
     );
     match add_peers(alloc, draft, template, &mut node) {
         Ok(Ok(())) => Ok(Ok(node)),

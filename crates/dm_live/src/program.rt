@@ -8,7 +8,7 @@ ghost use Rattle.dm_live.specs.Ending.{ending_of, Ran};
 
 use crate::fault::LiveFault;
 use crate::serve::serve_lines;
-use dm_io::{READ_AT_ONCE, WordsFault, end_program};
+use dm_io::{READ_AT_ONCE, WordsFault, write_ending_words};
 use std::alloc::Global;
 use std::io::{BufReader, Read, Write};
 
@@ -45,10 +45,10 @@ pub fn run_program<R: Read + Drop, W: Write, E: Write>(
             let is_asked = has_no_words(words.as_slice());
             drop(words);
             let outcome = run_if_asked(alloc, is_asked, reader, writer);
-            end_with_outcome(outcome, errors)
+            write_ending_of_outcome(outcome, errors)
         }
-        Err(WordsFault::NotText) => end_with_outcome(None, errors),
-        Err(WordsFault::NoMemory) => end_with_outcome(Some(Err(LiveFault::Memory)), errors),
+        Err(WordsFault::NotText) => write_ending_of_outcome(None, errors),
+        Err(WordsFault::NoMemory) => write_ending_of_outcome(Some(Err(LiveFault::Memory)), errors),
     }
 }
 
@@ -98,7 +98,10 @@ fn serve_reader<R: Read + Drop, W: Write>(
 }
 
 /// The status for an outcome, once its words stand on standard error.
-fn end_with_outcome<E: Write>(outcome: Option<Result<(), LiveFault>>, errors: &mut E) -> Ended
+fn write_ending_of_outcome<E: Write>(
+    outcome: Option<Result<(), LiveFault>>,
+    errors: &mut E,
+) -> Ended
     ensures outcome { result.outcome ≡ outcome }
     ensures status { result.status ≡ (ending_of outcome).0 }
     ensures told { result.told ≡ true →
@@ -107,7 +110,7 @@ fn end_with_outcome<E: Write>(outcome: Option<Result<(), LiveFault>>, errors: &m
         × Appends (E.contents errors.old) (E.contents errors.new) front }
 {
     let (status, words) = ending(outcome);
-    end_program(outcome, status, words, errors)
+    write_ending_words(outcome, status, words, errors)
 }
 
 /// The status with which the program ends, and the words for standard error.

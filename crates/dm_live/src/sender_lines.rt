@@ -14,7 +14,7 @@ ghost use Rattle.dm_live.specs.SenderLines.{exchange_lines, anew_line, sender_li
 
 use crate::form::Form;
 use crate::line_ends::{put_number_and_end, put_octets_and_end};
-use crate::order_words::neighbour_and_nothing;
+use crate::order_words::only_neighbour_left;
 use dm_base::SenderRef;
 use dm_slots::Acquaintance;
 use dm_text::Words;
@@ -27,7 +27,7 @@ pub(crate) fn read_sender_line(form: Form, line: &[u8]) -> Option<usize>
 {
     let mut left = Words::new(line);
     match left.next() {
-        Some(b"sender") => neighbour_and_nothing(form, &mut left),
+        Some(b"sender") => only_neighbour_left(form, &mut left),
         _ => None,
     }
 }
@@ -78,7 +78,7 @@ fn put_number_lines(text: &mut String, name: &str, numbers: &[u32]) -> Result<()
 
 /// Appends the sender's host, realm and product.
 #[tactic(auto, unfolding(crate::specs::SenderLines::name_lines))]
-fn put_names(text: &mut String, sender: SenderRef<'_>) -> Result<(), AllocError>
+fn put_host_realm_and_product(text: &mut String, sender: SenderRef<'_>) -> Result<(), AllocError>
     ensures { (l : List Avp) → HasAvps sender.entry l
         → OnOk result (string_bytes text.new ≡ string_bytes text.old ++ name_lines l) }
 {
@@ -107,7 +107,11 @@ fn put_applications(
 }
 
 /// Appends the vendors that the sender supports.
-fn put_vendors(alloc: Global, text: &mut String, sender: SenderRef<'_>) -> Result<(), AllocError>
+fn put_supported_vendors(
+    alloc: Global,
+    text: &mut String,
+    sender: SenderRef<'_>,
+) -> Result<(), AllocError>
     ensures { (l : List Avp) → HasAvps sender.entry l → OnOk result (string_bytes text.new
         ≡ string_bytes text.old ++ number_lines (codes "supports") (numbers_told supported_vendor_id l)) }
 {
@@ -142,7 +146,7 @@ fn put_ability_and_state(
         → OnOk result (string_bytes text.new ≡ string_bytes text.old ++ ability_lines l) }
 {
     put_applications(alloc, text, sender)?;
-    put_vendors(alloc, text, sender)?;
+    put_supported_vendors(alloc, text, sender)?;
     put_number_line_if_any(text, "origin-state", sender.state_id())
 }
 
@@ -158,7 +162,7 @@ fn put_sender_or_nobody(
 {
     match known.sender() {
         Some(sender) => {
-            put_names(text, sender)?;
+            put_host_realm_and_product(text, sender)?;
             put_vendor_and_firmware(text, sender)?;
             put_ability_and_state(alloc, text, sender)
         }
@@ -168,7 +172,7 @@ fn put_sender_or_nobody(
 
 /// Appends that the other side has begun anew, where it has.
 #[tactic(auto, unfolding(crate::specs::SenderLines::anew_line))]
-fn put_anew(text: &mut String, is_anew: bool) -> Result<(), AllocError>
+fn put_anew_line(text: &mut String, is_anew: bool) -> Result<(), AllocError>
     ensures { OnOk result (string_bytes text.new ≡ string_bytes text.old ++ anew_line is_anew) }
 {
     if is_anew {
@@ -188,7 +192,7 @@ fn put_acquaintance(
 {
     put_sender_or_nobody(alloc, text, known)?;
     put_number_line_if_any(text, "origin-state-before", known.state_before())?;
-    put_anew(text, known.is_anew())
+    put_anew_line(text, known.is_anew())
 }
 
 /// Appends who the other side of a neighbour is, or that there is none of the number.

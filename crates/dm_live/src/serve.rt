@@ -7,7 +7,7 @@ ghost use Rattle.dm_live.specs.Stages.{stage_of};
 use crate::fault::LiveFault;
 use crate::input::next_line;
 use crate::live::Live;
-use dm_io::write_text;
+use dm_io::write_text_and_flush;
 use std::alloc::Global;
 use std::io::{BufRead, Write};
 
@@ -52,7 +52,7 @@ fn answer_all_lines<R: BufRead, W: Write>(
         }
         text.clear();
         live.answer_line(alloc, before + 1, line.as_slice(), &mut text)?;
-        match write_text(writer, text.as_bytes()) {
+        match write_text_and_flush(writer, text.as_bytes()) {
             Ok(()) => {}
             Err(_) => return Err(LiveFault::Write),
         }

@@ -27,7 +27,7 @@ pub enum SettingName {
 }
 
 /// The setting of the node itself that a word names.
-fn read_node_setting(word: &[u8]) -> Option<SettingName>
+fn read_node_setting_name(word: &[u8]) -> Option<SettingName>
     ensures told { IfSome result (λ name. word.now ≡ setting_word name) }
     ensures none { IfNone result (IsNoneOf word.now (Host ∷ Realm ∷ Address ∷ Vendor ∷ Product ∷ [])) }
 {
@@ -42,7 +42,7 @@ fn read_node_setting(word: &[u8]) -> Option<SettingName>
 }
 
 /// The setting of what the node can do, or of its state, that a word names.
-fn read_ability_setting(word: &[u8]) -> Option<SettingName>
+fn read_ability_setting_name(word: &[u8]) -> Option<SettingName>
     ensures told { IfSome result (λ name. word.now ≡ setting_word name) }
     ensures none { IfNone result (IsNoneOf word.now (Auth ∷ Acct ∷ Supports ∷ Firmware ∷ State ∷ [])) }
 {
@@ -57,7 +57,7 @@ fn read_ability_setting(word: &[u8]) -> Option<SettingName>
 }
 
 /// The setting of peers and their messages that a word names.
-fn read_peer_setting(word: &[u8]) -> Option<SettingName>
+fn read_peer_setting_name(word: &[u8]) -> Option<SettingName>
     ensures told { IfSome result (λ name. word.now ≡ setting_word name) }
     ensures none { IfNone result (IsNoneOf word.now (Peer ∷ Compare ∷ First ∷ Early ∷ Max ∷ [])) }
 {
@@ -76,9 +76,9 @@ pub(crate) fn read_setting_name(word: &[u8]) -> Option<SettingName>
     ensures told { IfSome result (λ name. word.now ≡ setting_word name) }
     ensures none { IfNone result ((name : SettingName) → word.now ≡ setting_word name → ⊥) }
 {
-    read_node_setting(word)
-        .or(read_ability_setting(word))
-        .or(read_peer_setting(word))
+    read_node_setting_name(word)
+        .or(read_ability_setting_name(word))
+        .or(read_peer_setting_name(word))
 }
 
 /// True where the word says that an accounting application of a vendor follows, false where another application of a

@@ -42,7 +42,7 @@ pub fn each_order_is_a_command()
 
 /// What those changes come to: which command or message goes with each opening, when a CER goes out, what is closed,
 /// what is left alone, and that nothing is ordered behind a Close.
-pub fn each_opening_has_its_message()
+pub fn ceas_open_and_what_is_given_up_is_closed()
     ensures accepted { OpensAcceptedWithCea }
     ensures initiated { OpensInitiatedAtCea }
     ensures asked { SendsCerAtAck }
@@ -52,19 +52,19 @@ pub fn each_opening_has_its_message()
 {}
 
 /// What brings a connection to what it is to a node: a good CER, the CEA that is sent to it, its Ack with the CER, a
-/// good CEA.
-pub fn each_hold_is_caused()
+/// good CEA. Of a connection that is pending, closing or not held it says nothing.
+pub fn made_taken_and_open_connections_have_causes()
     ensures { EachHoldIsCaused }
 {}
 
 /// What an answer answers: a DWA, a DPA and a refusal go out only where the message that asks for them is heard.
-pub fn each_answer_has_its_request()
+pub fn dwas_dpas_and_refusals_have_requests()
     ensures { AnswersWhatIsHeard }
 {}
 
 /// What goes through an open connection, which is one at most: the messages of the user go out on it at a Submit, and
 /// each message of another command that is heard on it goes up, and nothing else does.
-pub fn open_connections_carry()
+pub fn open_connections_carry_user_messages()
     ensures submits { SubmitsWhereOpen }
     ensures up { HandsUpWhereOpen }
     ensures each { HandsUpEach }
@@ -73,14 +73,14 @@ pub fn open_connections_carry()
 
 /// A node of the right shape is one of eight forms: each state with the connections that it holds, and the counts of
 /// the open ones.
-pub fn each_node_has_its_form()
+pub fn shaped_nodes_have_eight_forms()
     ensures formed { EachShapeIsAForm }
     ensures shaped { EachFormIsShaped }
 {}
 
 /// A test of a step that looks at no connection holds of every step, where it holds of the few that the states, the
 /// places of a connection and the inputs make: those are proved by computing.
-pub fn each_step_is_one_of_few()
+pub fn few_steps_stand_for_all()
     ensures { EachStepHolds }
 {}
 
@@ -91,7 +91,7 @@ pub fn each_step_keeps_shape()
 
 /// Where what a message says makes no difference: on a new connection in a state that reads no first message, before an
 /// Ack, and on an accepted connection that waits for its CEA.
-pub fn unread_words_are_alike()
+pub fn what_unread_messages_say_makes_no_difference()
     ensures rejected { ClosesUnread }
     ensures dropped { DropsBeforeAck }
     ensures read { ReadsAsPeerDisc }
@@ -106,12 +106,12 @@ pub fn strangers_are_turned_away()
 
 /// What goes by the state: which inputs are refused, and that it counts who would win an election only where one can be
 /// held.
-pub fn each_state_decides()
+pub fn each_state_decides_refusals_and_elections()
     ensures refused { RefusesByState }
     ensures elected { WinnerCountsInElections }
 {}
 
 /// The state table with the own rows: a state and an event have at most one row, and it is the one that is followed.
-pub fn each_state_and_event_has_one_row()
+pub fn no_state_and_event_have_two_rows()
     ensures { HasOneRowEach }
 {}

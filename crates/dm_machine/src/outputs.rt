@@ -1,4 +1,4 @@
-//! What a peer orders: messages and connections.
+//! What a peer orders, messages and connections, and why an input is refused.
 ghost use Rattle.std.specs.Prelude.{◌≡◌, [], ◌∷◌};
 
 use crate::connection::Conn;
@@ -59,14 +59,14 @@ pub enum Refusal {
 }
 
 /// The orders of a step that gives none.
-pub fn none() -> Commands
+pub fn no_commands() -> Commands
     ensures { result.items ≡ [] }
 {
     ArrayVec::new()
 }
 
 /// The one order of a step.
-pub fn one(first: Command) -> Commands
+pub fn one_command(first: Command) -> Commands
     ensures { result.items ≡ first ∷ [] }
 {
     let mut commands = ArrayVec::new();
@@ -75,19 +75,19 @@ pub fn one(first: Command) -> Commands
 }
 
 /// The two orders of a step, in the order in which they are to be carried out.
-pub fn two(first: Command, second: Command) -> Commands
+pub fn two_commands(first: Command, second: Command) -> Commands
     ensures { result.items ≡ first ∷ second ∷ [] }
 {
-    let mut commands = one(first);
+    let mut commands = one_command(first);
     commands.push(second);
     commands
 }
 
 /// The three orders of a step, in the order in which they are to be carried out.
-pub fn three(first: Command, second: Command, third: Command) -> Commands
+pub fn three_commands(first: Command, second: Command, third: Command) -> Commands
     ensures { result.items ≡ first ∷ second ∷ third ∷ [] }
 {
-    let mut commands = two(first, second);
+    let mut commands = two_commands(first, second);
     commands.push(third);
     commands
 }

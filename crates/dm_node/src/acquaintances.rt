@@ -22,7 +22,7 @@ fn meet_by_message_if_any(
     ensures { place.new ≡ option_map (known_if_any exchange conn before peer.now) place.old }
 {
     if let Some(known) = place {
-        known.meet_behind(exchange, conn, before, peer);
+        known.meet_by_message(exchange, conn, before, peer);
     }
 }
 
@@ -31,7 +31,7 @@ fn meet_by_event_if_any(place: &mut Option<Acquaintance>, before: State, peer: &
     ensures { place.new ≡ option_map (known_after before peer.now) place.old }
 {
     if let Some(known) = place {
-        known.meet_after(before, peer);
+        known.meet_by_event(before, peer);
     }
 }
 
@@ -70,7 +70,7 @@ impl Acquaintances {
     }
 
     /// Makes room for a place more.
-    pub(crate) fn reserve(&mut self) -> Result<(), AllocError>
+    pub(crate) fn reserve_place(&mut self) -> Result<(), AllocError>
         ensures same { known_of self.new ≡ known_of self.old }
         ensures room { OnOk result (HasSparePlace self.new) }
     {
@@ -110,7 +110,7 @@ impl Acquaintances {
     }
 
     /// What is known of the neighbour of the number behind what came on the connection
-    /// ([`Acquaintance::meet_behind`]). It takes no memory.
+    /// ([`Acquaintance::meet_by_message`]). It takes no memory.
     pub(crate) fn meet_by_message(
         &mut self,
         index: usize,
@@ -128,7 +128,7 @@ impl Acquaintances {
     }
 
     /// What is known of the neighbour of the number behind an event that brought no message
-    /// ([`Acquaintance::meet_after`]). It takes no memory.
+    /// ([`Acquaintance::meet_by_event`]). It takes no memory.
     pub(crate) fn meet_by_event(&mut self, index: usize, before: State, peer: &Peer)
         ensures { known_of self.new ≡ with_known index (known_after before peer.now) (known_of self.old) }
     {

@@ -11,7 +11,7 @@ ghost use Rattle.dm_wire.specs.Spelling.{SpellsList};
 
 use dm_base::codes::{CAPABILITIES_EXCHANGE, ORIGIN_HOST};
 use dm_peer::read_message;
-use dm_wire::laws::members_spell;
+use dm_wire::laws::members_are_what_octets_spell;
 use dm_wire::{AvpRef, AvpsRef, Header, MessageRef};
 
 /// Whether the AVP is an Origin-Host.
@@ -22,7 +22,7 @@ fn is_origin_host(avp: AvpRef<'_>) -> bool
 }
 
 /// The data of the first Origin-Host; None where there is none.
-fn calling_host<'a>(avps: AvpsRef<'a>) -> Option<&'a [u8]>
+fn first_origin_host<'a>(avps: AvpsRef<'a>) -> Option<&'a [u8]>
     ensures { (l : List Avp) → Lists avps.entry l → option_copied result ≡ calling_host l }
 {
     let mut left = avps;
@@ -46,11 +46,11 @@ fn is_cer(header: &Header) -> bool
 fn spelled_avps_are_read(octets: &[u8])
     ensures { (l : List Avp) → SpellsList l octets.now → members octets.now ≡ Some l }
 {
-    members_spell();
+    members_are_what_octets_spell();
 }
 
 /// The header of a message that is a CER, and the host that it says it is from. None where it is no CER, or names none.
-fn caller_in<'a>(message: &MessageRef<'a>) -> Option<(Header, &'a [u8])>
+fn cer_header_and_host<'a>(message: &MessageRef<'a>) -> Option<(Header, &'a [u8])>
     ensures found { (l : List Avp) → SpellsList l message.now.rest.now → IfSome result (λ r.
         caller_in (Some (record { header = message.now.header; avps = l })) ≡ Some (r.0, r.1.now)) }
     ensures none { (l : List Avp) → SpellsList l message.now.rest.now → IfNone result
@@ -60,7 +60,7 @@ fn caller_in<'a>(message: &MessageRef<'a>) -> Option<(Header, &'a [u8])>
         return None;
     }
     spelled_avps_are_read(message.rest);
-    match calling_host(AvpsRef::Spelled(message.rest)) {
+    match first_origin_host(AvpsRef::Spelled(message.rest)) {
         Some(host) => Some((message.header, host)),
         None => None,
     }
@@ -68,12 +68,12 @@ fn caller_in<'a>(message: &MessageRef<'a>) -> Option<(Header, &'a [u8])>
 
 /// The header of a CER, and the host that it says it is from. None where the octets are no CER, or it names none. It
 /// never answers want of memory.
-pub(crate) fn caller<'a>(octets: &'a [u8]) -> Option<(Header, &'a [u8])>
+pub(crate) fn read_cer_header_and_host<'a>(octets: &'a [u8]) -> Option<(Header, &'a [u8])>
     ensures found { IfSome result (λ r. caller_of octets.now ≡ Some (r.0, r.1.now)) }
     ensures none { IfNone result (caller_of octets.now ≡ None) }
 {
     match read_message(octets) {
-        Some(message) => caller_in(&message),
+        Some(message) => cer_header_and_host(&message),
         None => None,
     }
 }

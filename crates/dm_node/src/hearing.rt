@@ -12,7 +12,7 @@ use crate::settling::settle_connections;
 use crate::telling::tell_message;
 use crate::{Answer, Node, Strangers, Told};
 use dm_machine::Conn;
-use dm_slots::laws::{taking_back_undoes, whole_is_taken};
+use dm_slots::laws::{taking_back_undoes_feeding, whole_messages_are_taken_whole};
 use std::alloc::{AllocError, Global};
 
 impl Node {
@@ -20,7 +20,8 @@ impl Node {
     /// answers how many octets of the piece it took. No more are taken than its first message wants behind what is
     /// kept; what is left is heard by the next call. Where that message isn't whole yet, where the octets are no
     /// message, and on a connection that isn't there, all of them are taken. So who hears each piece until nothing is
-    /// left of it heard all of it ([`heard_alike`](crate::laws::heard_alike)).
+    /// left of it heard all of it
+    /// ([`heard_pieces_are_told_as_kept_ones`](crate::laws::heard_pieces_are_told_as_kept_ones)).
     ///
     /// A whole message behind nothing is told where it lies, and of what is kept first just what it wants is copied.
     ///
@@ -55,9 +56,9 @@ impl Node {
         // Behind an `Err` nothing is asked for.
         ensures cleared { OnErr result (IsUntold answer.new) }
     {
-        whole_is_taken();
+        whole_messages_are_taken_whole();
         answer.clear();
-        match self.intakes.whole_in(conn, piece) {
+        match self.intakes.whole_message_len(conn, piece) {
             Some(size) => match tell_message(
                 alloc,
                 &self.own,
@@ -116,7 +117,7 @@ impl Node {
         ensures spelled { OnOk result (All SendsSpelling answer.new.actions.items) }
         ensures cleared { OnErr result (IsUntold answer.new) }
     {
-        taking_back_undoes();
+        taking_back_undoes_feeding();
         let size = match self.keep_front(conn, piece) {
             Ok(size) => size,
             Err(error) => return Err(error),

@@ -23,7 +23,7 @@ pub(crate) struct Hosts {
 }
 
 /// The host in lower case, where it isn't too long for one. It never answers want of memory.
-fn lower_host(host: &[u8]) -> Option<ArrayVec<u8, MAX_NAME_LEN>>
+fn host_in_lower_case(host: &[u8]) -> Option<ArrayVec<u8, MAX_NAME_LEN>>
     ensures lower { IfSome result (λ l. l.items ≡ lower host.now) }
     ensures long { IfNone result (max_name_len < length host.now) }
 {
@@ -49,18 +49,18 @@ impl Hosts {
     }
 
     /// The number that is noted for the host, upper and lower case taken as one; none for one that is too long.
-    pub(crate) fn number(&self, host: &[u8]) -> Option<usize>
+    pub(crate) fn noted_number(&self, host: &[u8]) -> Option<usize>
         ensures { result
             ≡ if nat_le (length host.now) max_name_len then noted_number self.now (lower host.now) else None }
     {
-        match lower_host(host) {
+        match host_in_lower_case(host) {
             Some(key) => self.map.get(key.as_slice()).copied(),
             None => None,
         }
     }
 
     /// Notes the number for a host in lower case.
-    fn note_lower_host(&mut self, key: &[u8], index: usize) -> Result<(), NoMemory>
+    fn note_host_in_lower_case(&mut self, key: &[u8], index: usize) -> Result<(), NoMemory>
         ensures noted { OnOk result ((h : List ℕ)
             → noted_number self.new h ≡ if is_host key.now h then Some index else noted_number self.old h) }
         ensures unchanged { OnErr result ((h : List ℕ) → noted_number self.new h ≡ noted_number self.old h) }
@@ -71,35 +71,35 @@ impl Hosts {
     }
 
     /// Notes the number for the host.
-    pub(crate) fn note(&mut self, host: &[u8], index: usize) -> Result<(), NoMemory>
+    pub(crate) fn note_host(&mut self, host: &[u8], index: usize) -> Result<(), NoMemory>
         requires { length host.now ≤ max_name_len }
         ensures noted { OnOk result ((h : List ℕ)
             → noted_number self.new h ≡ if is_host (lower host.now) h then Some index else noted_number self.old h) }
         ensures unchanged { OnErr result ((h : List ℕ) → noted_number self.new h ≡ noted_number self.old h) }
     {
-        match lower_host(host) {
-            Some(key) => self.note_lower_host(key.as_slice(), index),
+        match host_in_lower_case(host) {
+            Some(key) => self.note_host_in_lower_case(key.as_slice(), index),
             None => unreachable!(),
         }
     }
 
     /// Forgets the host.
-    fn forget(&mut self, host: &[u8])
+    fn forget_host(&mut self, host: &[u8])
         requires { length host.now ≤ max_name_len }
         ensures { (h : List ℕ)
             → noted_number self.new h ≡ if is_host (lower host.now) h then None else noted_number self.old h }
     {
-        if let Some(key) = lower_host(host) {
+        if let Some(key) = host_in_lower_case(host) {
             self.map.swap_remove(key.as_slice());
         }
     }
 
     /// Forgets the host of a neighbour that is gone, where there was one.
-    pub(crate) fn forget_peer(&mut self, gone: &Option<Peer>)
+    pub(crate) fn forget_host_of(&mut self, gone: &Option<Peer>)
         ensures { IsForgotten gone.now self.old self.new }
     {
         if let Some(peer) = gone {
-            self.forget(peer.config().peer_host());
+            self.forget_host(peer.config().peer_host());
         }
     }
 }

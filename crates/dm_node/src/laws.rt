@@ -13,12 +13,13 @@ ghost use Rattle.dm_node.specs.NodeSteps.{OrderIsSteps, TurnIsSteps, AddingIsASt
 ghost use Rattle.dm_node.specs.NodeStreams.{NodeCutsAlike, NodeOneTelling, NodeCutsToldOut, NodePiecesToldOut};
 
 use crate::{Node, neighbours};
-use dm_framer::laws::one_front;
-use dm_machine::laws::each_opening_has_its_message;
+use dm_framer::laws::at_most_one_frame_is_in_front;
+use dm_machine::laws::ceas_open_and_what_is_given_up_is_closed;
 use dm_peer::laws::{
-    each_event_is_one_step, each_event_keeps_settled, each_event_names_what_it_takes,
+    done_events_are_steps_or_drops, each_event_keeps_peers_settled,
+    only_named_connections_become_held,
 };
-use dm_slots::laws::what_is_there_stays;
+use dm_slots::laws::connections_stay_until_closed;
 
 /// No connection is held by two neighbours, and no two neighbours have one host, upper and lower case taken as one;
 /// whatever the node was told.
@@ -29,7 +30,7 @@ pub fn neighbours_are_apart(node: &Node)
 }
 
 /// Where no connection is held by two neighbours and no two have one host, an event concerns one neighbour at most.
-pub fn one_is_concerned()
+pub fn each_event_concerns_one_neighbour_at_most()
     ensures { OneIsConcerned }
 {}
 
@@ -38,7 +39,7 @@ pub fn one_is_concerned()
 pub fn each_neighbour_has_its_history()
     ensures { EachNeighbourHasItsHistory }
 {
-    each_event_is_one_step();
+    done_events_are_steps_or_drops();
 }
 
 /// Each call of a node is a step of its history, or none, or two where a host is taken in: an order, a turn of what
@@ -50,8 +51,8 @@ pub fn calls_are_steps()
     ensures removed { RemovingIsAStep }
 {}
 
-/// Each connection that a neighbour holds is there: what comes on it is kept and told.
-pub fn held_are_there(node: &Node)
+/// Each connection that a neighbour holds is there among those on which octets may come.
+pub fn each_held_connection_is_there(node: &Node)
     ensures { AllHeldAreThere (node_state_of node.now).peers (node_state_of node.now).intakes }
 {
     let _count = node.neighbours.iter();
@@ -68,15 +69,15 @@ pub fn neighbours_are_sound(node: &Node)
 /// What is told one neighbour leaves the others alone: each is what it was, and so is what came on the connections that
 /// it holds; at an order's event, and at what came on a connection, whatever the policy. A host that becomes a
 /// neighbour leaves them alone too.
-pub fn others_are_left_alone()
+pub fn other_neighbours_are_left_alone()
     ensures event { EventLeavesOthers }
     ensures octets { NextLeavesOthers }
 {
-    each_event_is_one_step();
-    each_event_keeps_settled();
-    each_event_names_what_it_takes();
-    each_opening_has_its_message();
-    what_is_there_stays();
+    done_events_are_steps_or_drops();
+    each_event_keeps_peers_settled();
+    only_named_connections_become_held();
+    ceas_open_and_what_is_given_up_is_closed();
+    connections_stay_until_closed();
 }
 
 /// A node of one neighbour is its peer: at an order's event it does what that does, and with `Alone` each turn of what
@@ -91,35 +92,35 @@ pub fn one_is_its_peer()
 /// What is heard of a piece is told as if the whole piece had been kept first, and what is left of it came behind,
 /// whatever the policy. And where nothing was left to tell of the connection, nothing is left then but that rest of the
 /// piece: so who hears each piece until nothing is left of it heard all of it.
-pub fn heard_alike()
+pub fn heard_pieces_are_told_as_kept_ones()
     ensures turn { NodeHeardAlike }
     ensures out { NodeHeardOut }
 {
-    one_front();
+    at_most_one_frame_is_in_front();
 }
 
 /// Whatever cuts a stream, telling the pieces is a telling of the whole, whatever the policy.
-pub fn cuts_alike()
+pub fn telling_pieces_tells_the_whole()
     ensures { NodeCutsAlike }
 {
-    one_front();
+    at_most_one_frame_is_in_front();
 }
 
 /// However a stream is cut, what is told until nothing is left is the same: the turns, in order, of which neighbour
 /// each is, and the node behind them. So it is by every policy, since each makes one configuration for a host.
-pub fn one_telling()
+pub fn every_cut_tells_the_same()
     ensures once { NodeOneTelling }
     ensures cut { NodeCutsToldOut }
     ensures pieces { NodePiecesToldOut }
 {
-    one_front();
-    each_event_is_one_step();
-    each_event_keeps_settled();
-    each_opening_has_its_message();
+    at_most_one_frame_is_in_front();
+    done_events_are_steps_or_drops();
+    each_event_keeps_peers_settled();
+    ceas_open_and_what_is_given_up_is_closed();
 }
 
 /// Nothing is told of a connection behind its Close or its end, whatever the policy.
-pub fn closed_is_down()
+pub fn closed_connections_tell_nothing_more()
     ensures close { NodeCloseIsLast }
     ensures order { NodeGoneIsSilent }
     ensures octets { NodeGoneTellsNothing }

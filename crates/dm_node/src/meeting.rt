@@ -9,13 +9,13 @@ ghost use Rattle.dm_slots.specs.Acquaintances.{is_exchange_to, known_after, know
 use crate::acquaintances::Acquaintances;
 use crate::neighbours::Neighbours;
 use dm_machine::{Conn, State};
-use dm_slots::is_exchange;
+use dm_slots::is_exchange_before_open;
 use dm_wire::Octets;
 use std::alloc::{AllocError, Global};
 
 /// A copy of the octets, where they are a CER or CEA and are told in a state that isn't open, and room for a neighbour
 /// more then; else no octets.
-pub(crate) fn copy_exchange_and_reserve(
+pub(crate) fn copy_exchange_and_reserve_place(
     alloc: Global,
     known: &mut Acquaintances,
     before: State,
@@ -26,10 +26,10 @@ pub(crate) fn copy_exchange_and_reserve(
     ensures same { known_of known.new ≡ known_of known.old }
     ensures memory { OnErr result (is_exchange_to before octets.now ≡ true) }
 {
-    if !is_exchange(before, octets) {
+    if !is_exchange_before_open(before, octets) {
         return Ok(Octets::empty(alloc));
     }
-    match known.reserve() {
+    match known.reserve_place() {
         Ok(()) => Octets::from_slice(alloc, octets),
         Err(error) => Err(error),
     }

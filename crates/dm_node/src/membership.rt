@@ -48,7 +48,7 @@ fn shut_held(intakes: &mut Slots, held: Holding)
 }
 
 /// Appends a Close of the connection; nothing where there is none.
-fn push_close(actions: &mut Actions, conn: Option<Conn>)
+fn push_close_if_any(actions: &mut Actions, conn: Option<Conn>)
     requires { length actions.old.items < 3 }
     ensures { actions.new.items ≡ actions.old.items ++ close_if_any conn }
 {
@@ -86,7 +86,7 @@ fn add_neighbour(
     ensures unmet { OnOk result (known_of known.new ≡ with_nobody (known_of known.old)) }
     ensures same { OnErr result (known_of known.new ≡ known_of known.old) }
 {
-    match known.reserve() {
+    match known.reserve_place() {
         Ok(()) => match neighbours.add(config) {
             Ok(index) => {
                 known.push_place();
@@ -135,12 +135,12 @@ impl Node {
     {
         neighbours_are_sound(&self.neighbours);
         answer.clear();
-        let held = self.neighbours.holding(index);
+        let held = self.neighbours.held_connections(index);
         let gone = self.neighbours.remove(index);
         self.known.forget(index);
         shut_held(&mut self.intakes, held);
-        push_close(&mut answer.actions, held.initiated);
-        push_close(&mut answer.actions, held.accepted);
+        push_close_if_any(&mut answer.actions, held.initiated);
+        push_close_if_any(&mut answer.actions, held.accepted);
         match gone {
             Some(_) => {
                 answer.neighbour = Some(index);
@@ -151,22 +151,22 @@ impl Node {
     }
 
     /// The neighbour of the number is Closed, and what it held is no more there. It never answers want of memory.
-    pub(crate) fn set_back(&mut self, index: usize)
+    pub(crate) fn reset_neighbour(&mut self, index: usize)
         ensures back { node_state_of self.new ≡ node_set_back index (node_state_of self.old) }
         ensures known { node_known_of self.new ≡ node_known_of self.old }
     {
         neighbours_are_sound(&self.neighbours);
-        let held = self.neighbours.holding(index);
-        self.neighbours.set_back(index);
+        let held = self.neighbours.held_connections(index);
+        self.neighbours.reset_neighbour(index);
         shut_held(&mut self.intakes, held);
     }
 
     /// Each neighbour is Closed, and no connection is there. It never answers want of memory.
-    pub(crate) fn set_back_all(&mut self)
+    pub(crate) fn reset_all_neighbours(&mut self)
         ensures back { node_state_of self.new ≡ node_closed (node_state_of self.old) }
         ensures known { node_known_of self.new ≡ node_known_of self.old }
     {
-        self.neighbours.set_back_all();
+        self.neighbours.reset_all_neighbours();
         self.intakes.clear();
     }
 }

@@ -5,11 +5,14 @@ ghost use Rattle.dm_node.specs.NodeHeld.{AreKept};
 use crate::AddFault;
 use crate::counting::{count_after_adding, count_after_removing};
 use crate::hosts::Hosts;
-use crate::owners::{Holding, Snapshot, holding_if_any};
+use crate::owners::{Holding, Snapshot, held_connections_if_any};
 use crate::peer_by_number::peer_at;
-use crate::removal_and_reset::{set_back_one, set_back_peers, take_out};
-use crate::reserved_place::reserve_place;
-use dm_peer::laws::{each_event_keeps_settled, each_send_is_spelled, every_peer_is_kept};
+use crate::removal_and_reset::{reset_all_peers, reset_one_peer, take_peer_out};
+use crate::reserved_place::reserve_place_and_note_host;
+use dm_peer::laws::{
+    each_event_keeps_peers_settled, each_send_spells_a_message,
+    every_peer_is_settled_with_fitting_numbers,
+};
 use dm_peer::{Config, Conn, Peer, State};
 use std::alloc::Global;
 use std::marker::Model;
@@ -72,7 +75,7 @@ impl Neighbours {
     /// # Errors
     /// `Known` just where a neighbour has its host, upper and lower case taken as one, whatever memory there is; else
     /// `NoMemory`. The neighbours are as they were after each, and the peer is dropped.
-    pub(crate) fn insert(&mut self, peer: Peer) -> Result<usize, AddFault>
+    pub(crate) fn insert_peer(&mut self, peer: Peer) -> Result<usize, AddFault>
         requires { (c : Conn) (j : ℕ) → holds c peer ≡ true → holds_at self.old c j ≡ false }
         ensures number { IfOk result (λ i. i ≡ length self.old) }
         ensures added { OnOk result (self.new ≡ self.old ++ Some peer ∷ []) }
@@ -80,9 +83,9 @@ impl Neighbours {
         ensures refuses { IfErr result (λ f. (f ≡ Known) ⊎ (f ≡ NoMemory)) }
         ensures unchanged { OnErr result (self.new ≡ self.old) }
     {
-        every_peer_is_kept(&peer);
+        every_peer_is_settled_with_fitting_numbers(&peer);
         let index = self.peers.len();
-        match reserve_place(&mut self.peers, &mut self.hosts, peer.config()) {
+        match reserve_place_and_note_host(&mut self.peers, &mut self.hosts, peer.config()) {
             Ok(()) => {
                 self.peers.push_reserved(Some(peer));
                 self.present = count_after_adding(&self.peers, self.present);
@@ -95,7 +98,7 @@ impl Neighbours {
     /// Puts a closed peer of this configuration behind the others, and answers its number.
     ///
     /// # Errors
-    /// Those of [`insert`](Neighbours::insert).
+    /// Those of [`insert_peer`](Neighbours::insert_peer).
     pub(crate) fn add(&mut self, config: Config) -> Result<usize, AddFault>
         ensures number { IfOk result (λ i. i ≡ length self.old) }
         ensures added { OnOk result (self.new ≡ with_new self.old config) }
@@ -103,7 +106,7 @@ impl Neighbours {
         ensures refuses { IfErr result (λ f. (f ≡ Known) ⊎ (f ≡ NoMemory)) }
         ensures unchanged { OnErr result (self.new ≡ self.old) }
     {
-        self.insert(Peer::new(config))
+        self.insert_peer(Peer::new(config))
     }
 
     /// The number of the neighbour of this host, upper and lower case taken as one. It never answers want of memory.
@@ -112,7 +115,7 @@ impl Neighbours {
         ensures found { IfSome result (λ i. host_at self.now i ≡ Some (lower host.now)) }
         ensures none { IfNone result ((j : ℕ) → host_at self.now j ≡ Some (lower host.now) → ⊥) }
     {
-        self.hosts.number(host)
+        self.hosts.noted_number(host)
     }
 
     /// How many neighbours there are, with no walk over them. It never answers want of memory.
@@ -148,12 +151,12 @@ impl Neighbours {
     }
 
     /// What the neighbour of this number holds, where there is one. It never answers want of memory.
-    pub(crate) fn holding(&self, index: usize) -> Holding
+    pub(crate) fn held_connections(&self, index: usize) -> Holding
         ensures holds { (c : Conn) → has result c ≡ holds_at self.now c index }
         ensures closes { close_if_any result.initiated ++ close_if_any result.accepted
             ≡ closes_of_any (peer_at self.now index) }
     {
-        holding_if_any(self.peer(index))
+        held_connections_if_any(self.peer(index))
     }
 
     /// The neighbour of the number, if there is a number and a neighbour has it: that which an event concerns. It never
@@ -176,7 +179,7 @@ impl Neighbours {
         ensures accepted { result.held.accepted ≡ accepted_of (concerned_in self.now who) }
     {
         let peer = self.peer_if_any(who);
-        let held = holding_if_any(peer);
+        let held = held_connections_if_any(peer);
         match peer {
             Some(peer) => Snapshot {
                 state: peer.state(),
@@ -196,28 +199,28 @@ impl Neighbours {
         ensures gone { result ≡ peer_at self.old index }
         ensures without { self.new ≡ without_peer self.old index }
     {
-        let gone = take_out(&mut self.peers, index);
-        self.hosts.forget_peer(&gone);
+        let gone = take_peer_out(&mut self.peers, index);
+        self.hosts.forget_host_of(&gone);
         self.present = count_after_removing(&gone, self.present);
         gone
     }
 
     /// Sets the neighbour of this number back to Closed, where there is one. It never answers want of memory.
-    pub(crate) fn set_back(&mut self, index: usize)
+    pub(crate) fn reset_neighbour(&mut self, index: usize)
         ensures { self.new ≡ with_set_back self.old index }
     {
-        each_event_keeps_settled();
-        each_send_is_spelled();
-        set_back_one(&mut self.peers, index);
+        each_event_keeps_peers_settled();
+        each_send_spells_a_message();
+        reset_one_peer(&mut self.peers, index);
     }
 
     /// Sets each neighbour back to Closed. It never answers want of memory.
-    pub(crate) fn set_back_all(&mut self)
+    pub(crate) fn reset_all_neighbours(&mut self)
         ensures { self.new ≡ all_set_back self.old }
     {
-        each_event_keeps_settled();
-        each_send_is_spelled();
-        set_back_peers(&mut self.peers);
+        each_event_keeps_peers_settled();
+        each_send_spells_a_message();
+        reset_all_peers(&mut self.peers);
     }
 }
 

@@ -15,8 +15,8 @@ ghost use Rattle.dm_peer.specs.declared.fault.PeerFault.TheVariants as peer_faul
 use crate::OrderFault;
 use crate::neighbours::Neighbours;
 use crate::stranger_events::StrangerActions;
-use dm_machine::laws::each_opening_has_its_message;
-use dm_peer::laws::each_event_is_one_step;
+use dm_machine::laws::ceas_open_and_what_is_given_up_is_closed;
+use dm_peer::laws::done_events_are_steps_or_drops;
 use dm_peer::{Actions, Config, Conn, Event, Peer, PeerFault, State};
 use std::alloc::Global;
 
@@ -41,8 +41,8 @@ fn tell_newcomer(
     ensures spelled { IfOk result (λ newcomer. All SendsSpelling newcomer.actions.items) }
     ensures memory { IfErr result (λ f. f ≡ peer_faults.NoMemory) }
 {
-    each_event_is_one_step();
-    each_opening_has_its_message();
+    done_events_are_steps_or_drops();
+    ceas_open_and_what_is_given_up_is_closed();
     let mut peer = Peer::new(config);
     let _state = peer.state();
     match peer.on(alloc, Event::Arrived(conn, octets)) {
@@ -73,7 +73,7 @@ fn add_unless_closed(
             neighbour: None,
             actions,
         }),
-        _ => match neighbours.insert(peer) {
+        _ => match neighbours.insert_peer(peer) {
             Ok(index) => Ok(StrangerActions {
                 neighbour: Some(index),
                 actions,
@@ -85,7 +85,7 @@ fn add_unless_closed(
 
 /// A new peer of the configuration is told the octets of the connection, which nobody holds,
 /// and becomes a neighbour, unless it is Closed.
-pub(crate) fn welcome(
+pub(crate) fn tell_and_add_newcomer(
     alloc: Global,
     neighbours: &mut Neighbours,
     config: Config,

@@ -11,14 +11,14 @@ use crate::telling::{tell_event, tell_message};
 use crate::{Answer, NodeEvent, Strangers, Told};
 use dm_machine::{Conn, State};
 use dm_peer::Peer;
-use dm_slots::laws::what_is_there_stays;
+use dm_slots::laws::connections_stay_until_closed;
 use dm_slots::{Acquaintance, Front, Slots};
 use std::alloc::{AllocError, Global};
 use std::slice;
 
 /// A node of one neighbour or of many with its connections: what came on each and wasn't told yet, and whom each
 /// neighbour met.
-/// What holds of each is said by `laws::held_are_there`.
+/// What holds of each is said by `laws::each_held_connection_is_there`.
 #[derive(Drop)]
 pub struct Node {
     pub(crate) own: dm_base::Node,
@@ -138,7 +138,7 @@ impl Node {
         ensures memory { OnErr result (is_there conn.0 (node_state_of self.old).intakes ≡ false) }
         ensures known { node_known_of self.new ≡ node_known_of self.old }
     {
-        what_is_there_stays();
+        connections_stay_until_closed();
         match self.intakes.open(alloc, conn, self.first_max) {
             Ok(()) => Ok(()),
             Err(error) => Err(error),
@@ -151,7 +151,7 @@ impl Node {
         ensures shut { node_state_of self.new ≡ node_shut conn (node_state_of self.old) }
         ensures known { node_known_of self.new ≡ node_known_of self.old }
     {
-        what_is_there_stays();
+        connections_stay_until_closed();
         self.intakes.shut(conn);
     }
 
@@ -164,7 +164,7 @@ impl Node {
         ensures memory { OnErr result (is_there conn.0 (node_state_of self.old).intakes ≡ true) }
         ensures known { node_known_of self.new ≡ node_known_of self.old }
     {
-        what_is_there_stays();
+        connections_stay_until_closed();
         self.intakes.feed(conn, piece)
     }
 
@@ -179,7 +179,7 @@ impl Node {
             × (i.is_broken ≡ false)) }
         ensures known { node_known_of self.new ≡ node_known_of self.old }
     {
-        what_is_there_stays();
+        connections_stay_until_closed();
         self.intakes.feed_front(conn, piece)
     }
 
@@ -188,7 +188,7 @@ impl Node {
         ensures back { node_state_of self.new ≡ node_unfed conn size (node_state_of self.old) }
         ensures known { node_known_of self.new ≡ node_known_of self.old }
     {
-        what_is_there_stays();
+        connections_stay_until_closed();
         self.intakes.take_back(conn, size);
     }
 
@@ -214,7 +214,7 @@ impl Node {
         ensures spelled { OnOk result (All SendsSpelling answer.new.actions.items) }
         ensures cleared { OnErr result (IsUntold answer.new) }
     {
-        what_is_there_stays();
+        connections_stay_until_closed();
         let event = NodeEvent::Arrived(conn, &[]);
         match tell_event(
             alloc,
@@ -227,7 +227,7 @@ impl Node {
             answer,
         ) {
             Ok(before) => {
-                self.intakes.break_off(alloc, conn);
+                self.intakes.discard_behind_fault(alloc, conn);
                 settle_connections(
                     &self.neighbours,
                     &mut self.intakes,
@@ -288,7 +288,7 @@ impl Node {
         // Behind an `Err` nothing is asked for.
         ensures cleared { OnErr result (IsUntold answer.new) }
     {
-        what_is_there_stays();
+        connections_stay_until_closed();
         answer.clear();
         match self.intakes.front(conn) {
             Front::Nothing => Ok(()),
@@ -304,7 +304,7 @@ impl Node {
                 answer,
             ) {
                 Ok(before) => {
-                    self.intakes.skip(conn);
+                    self.intakes.skip_front_message(conn);
                     settle_connections(
                         &self.neighbours,
                         &mut self.intakes,

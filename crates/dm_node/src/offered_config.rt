@@ -7,7 +7,7 @@ ghost use Rattle.dm_node.specs.Strangers.{IsPermitted, IsForbidden};
 ghost use Rattle.dm_node.specs.Telling.{IsAddressed};
 
 use crate::Strangers;
-use crate::calling::caller;
+use crate::calling::read_cer_header_and_host;
 use crate::neighbours::Neighbours;
 use dm_dict::NoMemory;
 use dm_peer::{Config, ConfigFault};
@@ -59,7 +59,7 @@ pub(crate) fn offered_config<S: Strangers>(
         → IsForbidden (S.policy strangers.now) neighbours.now c octets.now)) }
     ensures memory { OnErr result (IsSome (caller_of octets.now)) }
 {
-    match caller(octets) {
+    match read_cer_header_and_host(octets) {
         Some((_, host)) => {
             if neighbours.count() < strangers.most() {
                 config_by_template(alloc, strangers, host)

@@ -16,15 +16,15 @@ ghost use Rattle.dm_peer.specs.declared.fault.PeerFault.TheVariants as peer_faul
 use crate::events::peer_event;
 use crate::neighbours::{Neighbours, neighbours_are_sound};
 use crate::{Answer, NodeEvent, OrderFault};
-use dm_machine::laws::each_opening_has_its_message;
-use dm_peer::laws::{each_event_is_one_step, every_peer_is_kept};
+use dm_machine::laws::ceas_open_and_what_is_given_up_is_closed;
+use dm_peer::laws::{done_events_are_steps_or_drops, every_peer_is_settled_with_fitting_numbers};
 use dm_peer::{Actions, Event, Peer, PeerFault};
 use std::alloc::Global;
 
 /// Tells the neighbour of this number the event, and puts what it does into `actions`, which are none before. No other
 /// holds the connection that it names.
 #[inline(always)]
-fn tell(
+fn tell_peer_at(
     alloc: Global,
     peers: &mut Vec<Option<Peer>>,
     index: usize,
@@ -46,13 +46,13 @@ fn tell(
     ensures roster { (hosts : Hosts) (count : ℕ) → IsRoster peers.old.items hosts count
         → IsRoster peers.new.items hosts count }
 {
-    each_event_is_one_step();
-    each_opening_has_its_message();
+    done_events_are_steps_or_drops();
+    ceas_open_and_what_is_given_up_is_closed();
     match &mut peers[index] {
         Some(peer) => {
             let _state = peer.state();
             let done = peer.on_into(alloc, event, actions);
-            every_peer_is_kept(peer);
+            every_peer_is_settled_with_fitting_numbers(peer);
             done
         }
         None => unreachable!(),
@@ -62,7 +62,7 @@ fn tell(
 /// Tells the neighbour of this number the event, whose connection nobody else holds, and puts what it does into
 /// `answer`, whose actions are none before.
 #[inline(always)]
-pub(crate) fn tell_one(
+pub(crate) fn tell_one_neighbour(
     alloc: Global,
     neighbours: &mut Neighbours,
     index: usize,
@@ -85,7 +85,7 @@ pub(crate) fn tell_one(
     ensures unchanged { OnErr result (neighbours.new ≡ neighbours.old) }
 {
     let told = peer_event(event);
-    let done = tell(
+    let done = tell_peer_at(
         alloc,
         &mut neighbours.peers,
         index,

@@ -11,7 +11,7 @@ ghost use Rattle.dm_slots.specs.Intakes.{is_there};
 ghost use Rattle.dm_peer.specs.declared.peer.Peer.{Peer};
 ghost use Rattle.dm_slots.specs.Raised.{own_of, other_of};
 
-use dm_machine::laws::each_node_has_its_form;
+use dm_machine::laws::shaped_nodes_have_eight_forms;
 use dm_peer::{Conn, Peer, State};
 use dm_slots::Slots;
 
@@ -41,19 +41,19 @@ fn is_same_conn(one: Option<Conn>, other: Option<Conn>) -> bool
 }
 
 /// True only where the same connections are held, each as it was.
-fn is_unchanged(before: Holding, after: Holding) -> bool
+fn is_holding_unchanged(before: Holding, after: Holding) -> bool
     ensures { result ≡ true → before ≡ after }
 {
     is_same_conn(before.initiated, after.initiated) && is_same_conn(before.accepted, after.accepted)
 }
 
 /// What the peer holds.
-fn peer_holding(peer: &Peer) -> Holding
+fn held_connections_of(peer: &Peer) -> Holding
     ensures initiated { result.initiated ≡ own_of peer.now }
     ensures accepted { result.accepted ≡ other_of peer.now }
     ensures holds { (c : Conn) → has result c ≡ holds c peer.now }
 {
-    each_node_has_its_form();
+    shaped_nodes_have_eight_forms();
     let _state = peer.state();
     Holding {
         initiated: peer.initiated(),
@@ -62,7 +62,7 @@ fn peer_holding(peer: &Peer) -> Holding
 }
 
 /// What a neighbour holds, where there is one.
-pub(crate) fn holding_if_any(peer: Option<&Peer>) -> Holding
+pub(crate) fn held_connections_if_any(peer: Option<&Peer>) -> Holding
     ensures holds { (c : Conn) → has result c ≡ holds_it c (option_copied peer.entry) }
     ensures closes { close_if_any result.initiated ++ close_if_any result.accepted
         ≡ closes_of_any (option_copied peer.entry) }
@@ -70,7 +70,7 @@ pub(crate) fn holding_if_any(peer: Option<&Peer>) -> Holding
     ensures accepted { result.accepted ≡ accepted_of (option_copied peer.entry) }
 {
     match peer {
-        Some(peer) => peer_holding(peer),
+        Some(peer) => held_connections_of(peer),
         None => Holding {
             initiated: None,
             accepted: None,
@@ -86,14 +86,14 @@ fn change_owners(slots: &mut Slots, before: Holding, after: Holding, index: usiz
 {
     slots.disown(before.initiated);
     slots.disown(before.accepted);
-    slots.own(after.initiated, index);
-    slots.own(after.accepted, index);
+    slots.set_owner(after.initiated, index);
+    slots.set_owner(after.accepted, index);
 }
 
 /// Notes what the neighbour that was told something owns: it held `before`, and holds `after` now. Nothing where nobody
 /// was told.
 #[inline(always)]
-pub(crate) fn reown(slots: &mut Slots, before: Holding, after: Holding, who: Option<usize>)
+pub(crate) fn update_owners(slots: &mut Slots, before: Holding, after: Holding, who: Option<usize>)
     requires there { (c : Conn) → has after c ≡ true → is_there c.0 (intakes_of slots.old) ≡ true }
     ensures intakes { intakes_of slots.new ≡ intakes_of slots.old }
     ensures owned { (ps qs : List (Option Peer)) → AreApart qs
@@ -101,7 +101,7 @@ pub(crate) fn reown(slots: &mut Slots, before: Holding, after: Holding, who: Opt
         → AreOwned (owners_of slots.old) ps → AreOwned (owners_of slots.new) qs }
 {
     if let Some(index) = who {
-        if !is_unchanged(before, after) {
+        if !is_holding_unchanged(before, after) {
             change_owners(slots, before, after, index);
         }
     }

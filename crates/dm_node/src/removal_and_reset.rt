@@ -6,7 +6,7 @@ ghost use Rattle.dm_node.specs.Holding.{peer_at};
 use dm_peer::Peer;
 
 /// Takes the neighbour of the number out and returns it; None where there is none.
-pub(crate) fn take_out(peers: &mut Vec<Option<Peer>>, index: usize) -> Option<Peer>
+pub(crate) fn take_peer_out(peers: &mut Vec<Option<Peer>>, index: usize) -> Option<Peer>
     ensures gone { result ≡ peer_at peers.old.items index }
     ensures without { peers.new.items ≡ without_peer peers.old.items index }
 {
@@ -18,7 +18,7 @@ pub(crate) fn take_out(peers: &mut Vec<Option<Peer>>, index: usize) -> Option<Pe
 }
 
 /// Sets the peer back to Closed, with no connections; nothing where there is none.
-fn set_back(peer: &mut Option<Peer>)
+fn reset_if_any(peer: &mut Option<Peer>)
     ensures { peer.new ≡ option_map set_back peer.old }
 {
     if let Some(peer) = peer {
@@ -27,19 +27,19 @@ fn set_back(peer: &mut Option<Peer>)
 }
 
 /// Sets the neighbour of the number back, where there is one.
-pub(crate) fn set_back_one(peers: &mut Vec<Option<Peer>>, index: usize)
+pub(crate) fn reset_one_peer(peers: &mut Vec<Option<Peer>>, index: usize)
     ensures { peers.new.items ≡ with_set_back peers.old.items index }
 {
     if index < peers.len() {
-        set_back(&mut peers[index]);
+        reset_if_any(&mut peers[index]);
     }
 }
 
 /// Sets each neighbour back.
-pub(crate) fn set_back_peers(peers: &mut Vec<Option<Peer>>)
+pub(crate) fn reset_all_peers(peers: &mut Vec<Option<Peer>>)
     ensures { peers.new.items ≡ all_set_back peers.old.items }
 {
     for peer in peers.iter_mut() {
-        set_back(peer);
+        reset_if_any(peer);
     }
 }

@@ -1,4 +1,4 @@
-//! A place that is made for a neighbour before it is added.
+//! A place that is made for a neighbour, and its host that is noted, before it is added.
 ghost use Rattle.std.specs.Prelude.{◌≡◌, ◌⊎◌, ◌↔◌, ◌<◌, ℕ, List, Some, length, IfErr, IsErrOf, OnOk, OnErr};
 ghost use Rattle.std.specs.Prelude.{vec_len, vec_capacity, if◌then◌else◌};
 ghost use Rattle.dm_base.specs.Before.{lower};
@@ -12,7 +12,7 @@ use dm_peer::{Config, Peer};
 
 /// Makes room for a neighbour of this configuration, and notes its number for its host. `Known` where a neighbour has
 /// that host, else `NoMemory`: nothing is noted then.
-pub(crate) fn reserve_place(
+pub(crate) fn reserve_place_and_note_host(
     peers: &mut Vec<Option<Peer>>,
     hosts: &mut Hosts,
     config: &Config,
@@ -28,10 +28,10 @@ pub(crate) fn reserve_place(
     ensures refuses { IfErr result (λ f. (f ≡ Known) ⊎ (f ≡ NoMemory)) }
 {
     let index = peers.len();
-    match hosts.number(config.peer_host()) {
+    match hosts.noted_number(config.peer_host()) {
         Some(_) => Err(AddFault::Known),
         None => match peers.reserve(1) {
-            Ok(()) => match hosts.note(config.peer_host(), index) {
+            Ok(()) => match hosts.note_host(config.peer_host(), index) {
                 Ok(()) => Ok(()),
                 Err(_) => Err(AddFault::NoMemory),
             },

@@ -8,7 +8,7 @@ ghost use Rattle.dm_node.specs.Telling.{Concerns, IsAlone, IsMisdirected, Starts
 ghost use Rattle.dm_node.specs.declared.fault.OrderFault.{OrderFault};
 ghost use Rattle.dm_node.specs.declared.fault.OrderFault.TheVariants.{NoNeighbour};
 
-use crate::calling::caller;
+use crate::calling::read_cer_header_and_host;
 use crate::neighbours::Neighbours;
 use crate::{NodeEvent, OrderFault, Strangers};
 use dm_peer::Conn;
@@ -20,14 +20,14 @@ fn calling_neighbour(neighbours: &Neighbours, octets: &[u8]) -> Option<usize>
     ensures found { IfSome result (IsCallOf neighbours.now octets.now) }
     ensures none { IfNone result ((i : ℕ) → IsCallOf neighbours.now octets.now i → ⊥) }
 {
-    match caller(octets) {
+    match read_cer_header_and_host(octets) {
         Some((_, host)) => neighbours.find(host),
         None => None,
     }
 }
 
 /// The porter, where there is to be one and it is there.
-fn porter<S: Strangers>(neighbours: &Neighbours, strangers: &S) -> Option<usize>
+fn porter_if_there<S: Strangers>(neighbours: &Neighbours, strangers: &S) -> Option<usize>
     ensures there { IfSome result (λ i. IsSome (peer_at neighbours.now i)) }
     ensures found { IfSome result (IsPorter (S.policy strangers.now) neighbours.now) }
     ensures none { IfNone result ((i : ℕ) → IsPorter (S.policy strangers.now) neighbours.now i → ⊥) }
@@ -43,7 +43,7 @@ fn porter<S: Strangers>(neighbours: &Neighbours, strangers: &S) -> Option<usize>
 
 /// The neighbour that octets on a connection that nobody holds are for: the one whose host's CER they are, else the
 /// porter; None where there is neither.
-fn caller_or_porter<S: Strangers>(
+fn calling_neighbour_or_porter<S: Strangers>(
     neighbours: &Neighbours,
     strangers: &S,
     octets: &[u8],
@@ -55,12 +55,12 @@ fn caller_or_porter<S: Strangers>(
 {
     match calling_neighbour(neighbours, octets) {
         Some(index) => Some(index),
-        None => porter(neighbours, strangers),
+        None => porter_if_there(neighbours, strangers),
     }
 }
 
 /// The neighbour that holds the connection; None where none does.
-fn holder(neighbours: &Neighbours, slots: &Slots, conn: Conn) -> Option<usize>
+fn holding_neighbour(neighbours: &Neighbours, slots: &Slots, conn: Conn) -> Option<usize>
     requires { AreOwned (owners_of slots.now) neighbours.now }
     ensures there { IfSome result (λ i. IsSome (peer_at neighbours.now i)) }
     ensures found { IfSome result (λ i. holds_at neighbours.now conn i ≡ true) }
@@ -84,9 +84,9 @@ fn addressed_neighbour<S: Strangers>(
     ensures none { IfNone result ((i : ℕ)
         → IsAddressed (S.policy strangers.now) neighbours.now conn octets.now i → ⊥) }
 {
-    match holder(neighbours, slots, conn) {
+    match holding_neighbour(neighbours, slots, conn) {
         Some(index) => Some(index),
-        None => caller_or_porter(neighbours, strangers, octets),
+        None => calling_neighbour_or_porter(neighbours, strangers, octets),
     }
 }
 
@@ -127,7 +127,7 @@ pub(crate) fn concerned_neighbour<S: Strangers>(
         | NodeEvent::Tick(index)
         | NodeEvent::Submit(index, _) => neighbour_numbered(neighbours, index),
         NodeEvent::Ack(conn) | NodeEvent::Nack(conn) | NodeEvent::Gone(conn) => {
-            Ok(holder(neighbours, slots, conn))
+            Ok(holding_neighbour(neighbours, slots, conn))
         }
         NodeEvent::Arrived(conn, octets) => Ok(addressed_neighbour(
             neighbours, slots, strangers, conn, octets,

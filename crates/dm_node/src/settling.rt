@@ -11,9 +11,9 @@ ghost use Rattle.dm_slots.specs.Intakes.{actions_close, left_by};
 
 use crate::Answer;
 use crate::neighbours::{Neighbours, neighbours_are_sound};
-use crate::owners::{Holding, reown};
+use crate::owners::{Holding, update_owners};
 use dm_slots::Slots;
-use dm_slots::laws::what_is_there_stays;
+use dm_slots::laws::connections_stay_until_closed;
 
 /// Brings the connections up to date once an event was told: notes what its neighbour owns, which held `before`,
 /// forgets what the answer closes, and lets what an open neighbour holds take messages of at most `most` octets.
@@ -33,12 +33,12 @@ pub(crate) fn settle_connections(
     ensures owned { (ps : List (Option Peer)) → IsReowned ps neighbours.now answer.now.neighbour before
         → AreOwned (owners_of slots.old) ps → AreOwned (owners_of slots.new) neighbours.now }
 {
-    what_is_there_stays();
+    connections_stay_until_closed();
     neighbours_are_sound(neighbours);
     let after = neighbours.snapshot(answer.neighbour);
-    reown(slots, before, after.held, answer.neighbour);
-    slots.leave(answer.actions.as_slice());
-    slots.raise_open(
+    update_owners(slots, before, after.held, answer.neighbour);
+    slots.shut_connections_closed_by(answer.actions.as_slice());
+    slots.set_max_message_len_if_open(
         after.state.is_open(),
         after.held.initiated,
         after.held.accepted,

@@ -7,9 +7,9 @@ ghost use Rattle.dm_node.specs.declared.fault.OrderFault.TheVariants as faults;
 ghost use Rattle.dm_peer.specs.Spelled.{SendsSpelling};
 ghost use Rattle.dm_peer.specs.declared.fault.PeerFault.TheVariants as peer_faults;
 
-use crate::calling::caller;
+use crate::calling::read_cer_header_and_host;
 use crate::neighbours::Neighbours;
-use crate::newcomer::welcome;
+use crate::newcomer::tell_and_add_newcomer;
 use crate::offered_config::offered_config;
 use crate::{Answer, NodeEvent, OrderFault, Strangers};
 use arrayvec::ArrayVec;
@@ -41,7 +41,7 @@ fn refusing_actions(
     ensures memory { OnErr result (IsSome (caller_of octets.now)) }
 {
     let mut actions = ArrayVec::new();
-    if let Some((header, _)) = caller(octets) {
+    if let Some((header, _)) = read_cer_header_and_host(octets) {
         let answer = error_answer(alloc, own, &header, UNKNOWN_PEER)?;
         actions.push(Action::Send(conn, sent_octets(alloc, &answer)?));
     }
@@ -71,7 +71,7 @@ fn turn_away(
 }
 
 /// What is done at octets of a connection that concern no neighbour.
-fn welcome_or_turn_away<S: Strangers>(
+fn admit_or_turn_away<S: Strangers>(
     alloc: Global,
     own: &Node,
     neighbours: &mut Neighbours,
@@ -87,14 +87,15 @@ fn welcome_or_turn_away<S: Strangers>(
     ensures unchanged { OnErr result (neighbours.new ≡ neighbours.old) }
 {
     match offered_config(alloc, neighbours, strangers, octets) {
-        Ok(Some(config)) => welcome(alloc, neighbours, config, conn, octets),
+        Ok(Some(config)) => tell_and_add_newcomer(alloc, neighbours, config, conn, octets),
         Ok(None) => turn_away(alloc, own, conn, octets),
         Err(_) => Err(OrderFault::Peer(PeerFault::NoMemory)),
     }
 }
 
-/// What is done at an event that concerns no neighbour.
-fn stranger_actions<S: Strangers>(
+/// What is done at an event that concerns no neighbour: at what came on a connection, its sender is taken in or turned
+/// away; at all else nothing.
+fn admit_or_turn_away_if_arrived<S: Strangers>(
     alloc: Global,
     own: &Node,
     neighbours: &mut Neighbours,
@@ -110,7 +111,7 @@ fn stranger_actions<S: Strangers>(
 {
     match event {
         NodeEvent::Arrived(conn, octets) => {
-            welcome_or_turn_away(alloc, own, neighbours, strangers, conn, octets)
+            admit_or_turn_away(alloc, own, neighbours, strangers, conn, octets)
         }
         _ => Ok(StrangerActions {
             neighbour: None,
@@ -136,7 +137,7 @@ pub(crate) fn handle_stranger_event<S: Strangers>(
     ensures memory { IfErr result (λ f. (f ≡ faults.Peer peer_faults.NoMemory) × IsStrangeCer event.entry) }
     ensures unchanged { OnErr result (neighbours.new ≡ neighbours.old) }
 {
-    match stranger_actions(alloc, own, neighbours, strangers, event) {
+    match admit_or_turn_away_if_arrived(alloc, own, neighbours, strangers, event) {
         Ok(done) => {
             answer.neighbour = done.neighbour;
             answer.actions = done.actions;

@@ -27,9 +27,9 @@ use crate::settling::settle_connections;
 use crate::telling::tell_event;
 use crate::{Answer, Node, NodeEvent, Order, OrderFault, Told};
 use dm_machine::{Conn, State};
-use dm_peer::laws::{each_event_names_what_it_takes, refusals_go_by_rule};
+use dm_peer::laws::{only_named_connections_become_held, refusals_go_by_rule};
 use dm_peer::{Peer, PeerFault};
-use dm_slots::laws::what_is_there_stays;
+use dm_slots::laws::connections_stay_until_closed;
 use std::alloc::Global;
 
 /// Why the peer refuses a Start; None where it takes one.
@@ -121,14 +121,14 @@ impl Node {
         ensures spelled { OnOk result (All SendsSpelling answer.new.actions.items) }
     {
         match order {
-            Order::Start(index, conn) => self.start(alloc, index, conn, answer),
-            Order::Ack(conn) => self.tell_if_there(alloc, conn, NodeEvent::Ack(conn), answer),
-            Order::Nack(conn) => self.nack(alloc, conn, answer),
+            Order::Start(index, conn) => self.open_and_tell_start(alloc, index, conn, answer),
+            Order::Ack(conn) => self.tell_event_if_there(alloc, conn, NodeEvent::Ack(conn), answer),
+            Order::Nack(conn) => self.tell_nack_and_shut_unheld(alloc, conn, answer),
             Order::Accept(conn) => match self.open(alloc, conn) {
                 Ok(()) => Ok(()),
                 Err(_) => Err(OrderFault::Peer(PeerFault::NoMemory)),
             },
-            Order::Gone(conn) => self.gone(alloc, conn, answer),
+            Order::Gone(conn) => self.tell_gone_and_shut(alloc, conn, answer),
             Order::Timeout(index) => {
                 self.tell_order_event(alloc, NodeEvent::Timeout(index), answer)
             }
@@ -142,11 +142,11 @@ impl Node {
                 self.tell_order_event(alloc, NodeEvent::Submit(index, octets), answer)
             }
             Order::Reset(index) => {
-                self.set_back(index);
+                self.reset_neighbour(index);
                 Ok(())
             }
             Order::ResetAll => {
-                self.set_back_all();
+                self.reset_all_neighbours();
                 Ok(())
             }
         }
@@ -202,7 +202,7 @@ impl Node {
     }
 
     /// Tells an event of the connection, which names no other. Nothing is told where the connection isn't there.
-    fn tell_if_there(
+    fn tell_event_if_there(
         &mut self,
         alloc: Global,
         conn: Conn,
@@ -246,7 +246,12 @@ impl Node {
     }
 
     /// Tells that the connection can't be made, and forgets it then, unless a neighbour holds it.
-    fn nack(&mut self, alloc: Global, conn: Conn, answer: &mut Answer) -> Result<(), OrderFault>
+    fn tell_nack_and_shut_unheld(
+        &mut self,
+        alloc: Global,
+        conn: Conn,
+        answer: &mut Answer,
+    ) -> Result<(), OrderFault>
         requires { IsUntold answer.old }
         ensures told { OnOk result (NodeTellsNack conn (node_state_of self.old)
             (asks_of answer.new) (node_state_of self.new)) }
@@ -262,7 +267,7 @@ impl Node {
             → ToldTakesMemory (told_there conn (Nack conn) (node_state_of self.old)) (node_state_of self.old) }
         ensures spelled { OnOk result (All SendsSpelling answer.new.actions.items) }
     {
-        match self.tell_if_there(alloc, conn, NodeEvent::Nack(conn), answer) {
+        match self.tell_event_if_there(alloc, conn, NodeEvent::Nack(conn), answer) {
             Ok(()) => {
                 self.shut_unless_held(conn);
                 Ok(())
@@ -272,7 +277,12 @@ impl Node {
     }
 
     /// Tells the end of the connection, and forgets it then.
-    fn gone(&mut self, alloc: Global, conn: Conn, answer: &mut Answer) -> Result<(), OrderFault>
+    fn tell_gone_and_shut(
+        &mut self,
+        alloc: Global,
+        conn: Conn,
+        answer: &mut Answer,
+    ) -> Result<(), OrderFault>
         requires { IsUntold answer.old }
         ensures told { OnOk result (NodeTellsEnd conn (Gone conn) (node_state_of self.old)
             (asks_of answer.new) (node_state_of self.new)) }
@@ -288,9 +298,9 @@ impl Node {
             → ToldTakesMemory (told_there conn (Gone conn) (node_state_of self.old)) (node_state_of self.old) }
         ensures spelled { OnOk result (All SendsSpelling answer.new.actions.items) }
     {
-        each_event_names_what_it_takes();
+        only_named_connections_become_held();
         neighbours_are_sound(&self.neighbours);
-        match self.tell_if_there(alloc, conn, NodeEvent::Gone(conn), answer) {
+        match self.tell_event_if_there(alloc, conn, NodeEvent::Gone(conn), answer) {
             Ok(()) => {
                 self.shut(conn);
                 Ok(())
@@ -316,7 +326,7 @@ impl Node {
     }
 
     /// Tells a Start of the connection to the neighbour of the number, and the connection is there from then on.
-    fn start(
+    fn open_and_tell_start(
         &mut self,
         alloc: Global,
         index: usize,
@@ -339,7 +349,7 @@ impl Node {
             → is_there conn.0 (node_state_of self.old).intakes ≡ false }
         ensures spelled { OnOk result (All SendsSpelling answer.new.actions.items) }
     {
-        what_is_there_stays();
+        connections_stay_until_closed();
         if self.has(conn) {
             return Ok(());
         }

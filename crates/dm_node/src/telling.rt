@@ -1,4 +1,4 @@
-//! The neighbours of a node are told an event.
+//! An event is told to the one neighbour of a node that it concerns; where it concerns none it is a stranger's.
 ghost use Rattle.std.specs.Prelude.{◌≡◌, ◌⊎◌, ℕ, true, List, [], All, Err, IfOk, IfErr, OnOk, OnErr};
 ghost use Rattle.dm_machine.specs.declared.connection.Conn.{Conn};
 ghost use Rattle.dm_node.specs.Declining.{IsDeclinedHere, GoesByRule, GoesByAllRules, EventTakesMemory};
@@ -18,19 +18,19 @@ ghost use Rattle.dm_slots.specs.Intakes.{Intakes as AllIntakes, actions_close};
 ghost use Rattle.dm_slots.specs.Naming.{NamesThere};
 
 use crate::acquaintances::Acquaintances;
-use crate::meeting::{copy_exchange_and_reserve, meet_by_event, meet_by_message};
+use crate::meeting::{copy_exchange_and_reserve_place, meet_by_event, meet_by_message};
 use crate::neighbours::{Neighbours, neighbours_are_sound};
-use crate::one_told::tell_one;
+use crate::one_told::tell_one_neighbour;
 use crate::owners::Holding;
 use crate::routing::concerned_neighbour;
 use crate::stranger_events::handle_stranger_event;
 use crate::{Answer, NodeEvent, OrderFault, Strangers};
 use dm_base::Node;
 use dm_machine::Conn;
-use dm_machine::laws::each_opening_has_its_message;
+use dm_machine::laws::ceas_open_and_what_is_given_up_is_closed;
 use dm_peer::laws::{
-    each_event_is_one_step, each_event_keeps_settled, each_event_names_what_it_takes,
-    refusals_go_by_rule,
+    done_events_are_steps_or_drops, each_event_keeps_peers_settled,
+    only_named_connections_become_held, refusals_go_by_rule,
 };
 use dm_slots::Slots;
 use std::alloc::{AllocError, Global};
@@ -58,15 +58,15 @@ fn tell_one_or_handle_stranger<S: Strangers>(
 {
     neighbours_are_sound(neighbours);
     match who {
-        Some(index) => tell_one(alloc, neighbours, index, event, answer),
+        Some(index) => tell_one_neighbour(alloc, neighbours, index, event, answer),
         None => handle_stranger_event(alloc, own, neighbours, strangers, event, answer),
     }
 }
 
-/// Tells the neighbours the event, which is of this one or of none, by the policy for strangers, and puts what it comes
-/// to into `answer`, whose actions are none before.
+/// Tells the event to the neighbour that it concerns, `who`, or handles it as a stranger's where it concerns none, by
+/// the policy for strangers, and puts what it comes to into `answer`, whose actions are none before.
 #[inline(always)]
-fn tell_neighbours<S: Strangers>(
+fn tell_neighbour_or_handle_stranger<S: Strangers>(
     alloc: Global,
     own: &Node,
     neighbours: &mut Neighbours,
@@ -92,10 +92,10 @@ fn tell_neighbours<S: Strangers>(
     ensures spelled { OnOk result (All SendsSpelling answer.new.actions.items) }
     ensures unchanged { OnErr result (neighbours.new ≡ neighbours.old) }
 {
-    each_event_is_one_step();
-    each_event_keeps_settled();
-    each_event_names_what_it_takes();
-    each_opening_has_its_message();
+    done_events_are_steps_or_drops();
+    each_event_keeps_peers_settled();
+    only_named_connections_become_held();
+    ceas_open_and_what_is_given_up_is_closed();
     refusals_go_by_rule();
     neighbours_are_sound(neighbours);
     match tell_one_or_handle_stranger(alloc, own, neighbours, strangers, who, event, answer) {
@@ -104,9 +104,9 @@ fn tell_neighbours<S: Strangers>(
     }
 }
 
-/// Tells the neighbours the message that came on the connection, by the policy for strangers, puts what it comes to
-/// into `answer`, whose actions are none before, and keeps whom it met. Returns what its neighbour held before. The CER
-/// or CEA is copied first, so that behind an `Err` all is as it was.
+/// Tells the message that came on the connection to the neighbour that it concerns, or handles it as a stranger's, puts
+/// what it comes to into `answer`, whose actions are none before, and keeps whom it met. Returns what its neighbour
+/// held before. The CER or CEA is copied first, so that behind an `Err` all is as it was.
 pub(crate) fn tell_message<S: Strangers>(
     alloc: Global,
     own: &Node,
@@ -144,11 +144,11 @@ pub(crate) fn tell_message<S: Strangers>(
         Err(_) => unreachable!(),
     };
     let before = neighbours.snapshot(who);
-    let exchange = match copy_exchange_and_reserve(alloc, known, before.state, octets) {
+    let exchange = match copy_exchange_and_reserve_place(alloc, known, before.state, octets) {
         Ok(exchange) => exchange,
         Err(error) => return Err(error),
     };
-    match tell_neighbours(alloc, own, neighbours, strangers, who, event, answer) {
+    match tell_neighbour_or_handle_stranger(alloc, own, neighbours, strangers, who, event, answer) {
         Ok(()) => {
             meet_by_message(
                 neighbours,
@@ -164,9 +164,9 @@ pub(crate) fn tell_message<S: Strangers>(
     }
 }
 
-/// Tells the neighbours an event that is no stranger's CER, puts what it comes to into `answer`, whose actions are none
-/// before, and keeps whom the end of an election met by it. Returns what its neighbour held before; behind an `Err` the
-/// neighbours and whom they met are as they were.
+/// Tells an event that is no stranger's CER to the neighbour that it concerns, if any, puts what it comes to into
+/// `answer`, whose actions are none before, and keeps whom the end of an election met by it. Returns what its neighbour
+/// held before; behind an `Err` the neighbours and whom they met are as they were.
 pub(crate) fn tell_event<S: Strangers>(
     alloc: Global,
     own: &Node,
@@ -210,7 +210,7 @@ pub(crate) fn tell_event<S: Strangers>(
         Err(fault) => return Err(fault),
     };
     let before = neighbours.snapshot(who);
-    match tell_neighbours(alloc, own, neighbours, strangers, who, event, answer) {
+    match tell_neighbour_or_handle_stranger(alloc, own, neighbours, strangers, who, event, answer) {
         Ok(()) => {
             meet_by_event(neighbours, known, answer.neighbour, before.state);
             Ok(before.held)

@@ -1,6 +1,6 @@
 -- Two peers over octets match an answer with its request, by the Hop-by-Hop Identifier (RFC 6733, 3 and 6.2.1).
 use Rattle.std.specs.Prelude.{◌<◌, ◌^◌, ℕ, Bool, true, false, not, ◌&&◌, ◌||◌, nat_eq, nat_lt, if◌then◌else◌, Option}
-use Rattle.std.specs.Prelude.{None, Some, is_none, IsTrue, IfSome, List, Result, Ok, Err}
+use Rattle.std.specs.Prelude.{None, Some, is_none, IsTrue, IfSome, List, Result, Ok}
 use Rattle.dm_wire.specs.declared.message.Header.{Header}
 use Rattle.dm_wire.specs.declared.message.Message.{Message}
 use Rattle.dm_wire.specs.Whole.{message_in}

@@ -10,63 +10,74 @@ ghost use Rattle.dm_octet_peers.specs.Matching.{OctetAnswersMatch, EachOctetQuie
 ghost use Rattle.dm_octet_peers.specs.Frames.{OctetsAreFrames};
 ghost use Rattle.dm_octet_peers.specs.Octets.{octet_peers};
 
-use dm_base::laws::{built_is_own, built_is_spelled, common_is_shared};
-use dm_machine::laws::{
-    each_connection_changes_as_allowed, each_node_has_its_form, each_order_is_a_command,
-    each_step_is_one_of_few, each_step_keeps_shape, open_connections_carry, unread_words_are_alike,
+use dm_base::laws::{
+    applications_are_common_by_shared_id_or_relay, built_messages_are_good,
+    octets_spell_built_messages,
 };
-use dm_peer::laws::{each_event_is_a_case, each_event_is_one_step, sent_is_good};
+use dm_machine::laws::{
+    each_connection_changes_as_allowed, each_order_is_a_command, each_step_keeps_shape,
+    few_steps_stand_for_all, open_connections_carry_user_messages, shaped_nodes_have_eight_forms,
+    what_unread_messages_say_makes_no_difference,
+};
+use dm_peer::laws::{
+    done_events_are_steps_or_drops, events_are_steps_drops_or_refusals,
+    requests_and_successes_are_heard_as_good,
+};
 use dm_peer::{Config, Peer};
 use dm_two_peers::laws::{
-    closed_is_sound, each_clean_run_can_fall_quiet, each_clean_run_falls_quiet,
-    each_clean_run_settles, each_happening_keeps_sound, each_quiet_run_is_closed_or_open,
-    each_run_delivers, each_run_hands_up_what_came, each_world_can_open, quiet_is_joined,
-    winner_does_not_return,
+    closed_peers_make_a_sound_world, each_clean_run_can_fall_quiet, each_clean_run_falls_quiet,
+    each_clean_run_keeps_its_course, each_happening_keeps_worlds_sound,
+    each_quiet_run_is_closed_or_open, each_run_delivers_in_order, each_run_hands_up_only_arrivals,
+    each_world_can_restart_and_open, quiet_peers_are_closed_or_joined,
+    winners_never_enter_wait_returns,
 };
-use dm_wire::laws::{canonical_spells, message_in_spells, spelled_is_found, spelled_is_framed};
+use dm_wire::laws::{
+    canonical_octets_spell_message, message_in_octets_is_what_they_spell, spelled_message_is_found,
+    spelled_messages_are_frames,
+};
 use dm_wire::{Header, Octets};
 
 /// Peers over octets move as the state machine.
-pub fn octets_are_a_machine()
+pub fn octet_peers_move_as_the_machine()
     ensures { IsMachine octet_peers }
 {
-    each_event_is_one_step();
+    done_events_are_steps_or_drops();
 }
 
 /// Of two peers that are configured for each other and have an application in common one wins the election, and each
 /// reads the other's CER and CEA as good ones (RFC 6733, 5.3 and 5.6.4).
-pub fn octets_are_electing()
+pub fn paired_octet_peers_elect_one()
     ensures { OctetsAreElecting }
 {
-    common_is_shared();
-    each_step_is_one_of_few();
+    applications_are_common_by_shared_id_or_relay();
+    few_steps_stand_for_all();
     each_step_keeps_shape();
-    sent_is_good();
+    requests_and_successes_are_heard_as_good();
 }
 
 /// Two new peers that are configured for each other are peers as these laws ask for them, and whatever happens keeps it
 /// so.
-pub fn each_happening_keeps_peers()
+pub fn each_happening_keeps_peers_paired()
     ensures fresh { FreshArePeers }
     ensures kept { HappeningKeepsPeers }
 {
     each_step_keeps_shape();
-    winner_does_not_return();
+    winners_never_enter_wait_returns();
 }
 
 /// Every message that a peer over octets sends has octets.
-pub fn octets_are_sized()
+pub fn octet_peers_send_no_empty_message()
     ensures { OctetsAreSized }
 {}
 
 /// Every message that a peer over octets sends is a frame, at most 16777212 octets long: a framer hands it out whole
 /// (3).
-pub fn octets_are_frames()
+pub fn every_message_sent_is_a_frame()
     ensures { OctetsAreFrames }
 {
-    built_is_spelled();
-    message_in_spells();
-    spelled_is_framed();
+    octets_spell_built_messages();
+    message_in_octets_is_what_they_spell();
+    spelled_messages_are_frames();
 }
 
 /// What each clean run (of Starts, Acks, deliveries and pieces alone) comes to of two closed peers that are configured
@@ -74,98 +85,98 @@ pub fn octets_are_frames()
 /// connection that a taken Start made, from its opener; where both sides started, the winner's disconnect of its own;
 /// the CEA on the connection that the election keeps; and the disconnect that answers the winner's. Where a Start is
 /// taken and it falls quiet, all of it was put in, and both are open on that connection (5.6.4).
-pub fn each_octet_run_settles()
+pub fn each_clean_octet_run_keeps_its_course()
     ensures { EachOctetRunSettles }
 {
-    each_clean_run_settles::<Peer, Octets, Config, Header>();
-    octets_are_electing();
+    each_clean_run_keeps_its_course::<Peer, Octets, Config, Header>();
+    paired_octet_peers_elect_one();
 }
 
 /// A clean run (of Starts, Acks, deliveries and pieces alone) of two closed peers that are configured for each other,
 /// from where nothing is under way, falls quiet, in whatever order things come: it is quiet where no Ack and no
 /// delivery is done any more, after nine steps, and where one side alone starts after four. A piece that ends no
 /// message is no step.
-pub fn each_octet_run_falls_quiet()
+pub fn each_clean_octet_run_falls_quiet()
     ensures { EachOctetRunFallsQuiet }
 {
     each_clean_run_falls_quiet::<Peer, Octets, Config, Header>();
-    octets_are_electing();
+    paired_octet_peers_elect_one();
 }
 
 /// A clean run (of Starts, Acks, deliveries and pieces alone) of two closed peers that are configured for each other,
 /// from where nothing is under way, can fall quiet: after some Acks and deliveries, with its own steps nine at most,
 /// nothing is under way, and both are open on the connection that the election keeps (5.6.4).
-pub fn each_octet_run_can_fall_quiet()
+pub fn each_clean_octet_run_can_fall_quiet()
     ensures { EachOctetRunCanFallQuiet }
 {
     each_clean_run_can_fall_quiet::<Peer, Octets, Config, Header>();
-    octets_are_electing();
+    paired_octet_peers_elect_one();
 }
 
 /// From each sound world of two peers that are configured for each other, whatever happened before, both sides can
 /// restart, and after some deliveries a Start of either side, the Ack and two deliveries open both on the connection
 /// that it makes. A list that does it exists, which isn't to say that peers take it by themselves.
-pub fn each_octet_world_can_open()
+pub fn each_octet_world_can_restart_and_open()
     ensures { EachOctetWorldCanOpen }
 {
-    each_world_can_open::<Peer, Octets, Config, Header>();
-    octets_are_a_machine();
-    octets_are_electing();
+    each_world_can_restart_and_open::<Peer, Octets, Config, Header>();
+    octet_peers_move_as_the_machine();
+    paired_octet_peers_elect_one();
 }
 
 /// After any list of happenings to two new peers that are configured for each other both sides can restart, and after
 /// some deliveries a Start of either side, the Ack and two deliveries open both on the connection that it makes: no run
 /// is a trap.
-pub fn each_octet_run_can_open()
+pub fn each_octet_run_can_restart_and_open()
     ensures { EachOctetRunCanOpen }
 {
-    closed_is_sound::<Peer, Octets>();
-    each_happening_keeps_sound::<Peer, Octets>();
-    each_happening_keeps_peers();
-    each_octet_world_can_open();
-    octets_are_a_machine();
+    closed_peers_make_a_sound_world::<Peer, Octets>();
+    each_happening_keeps_worlds_sound::<Peer, Octets>();
+    each_happening_keeps_peers_paired();
+    each_octet_world_can_restart_and_open();
+    octet_peers_move_as_the_machine();
 }
 
 /// In each sound world of two peers that are configured for each other in which nothing is under way, whatever happened
 /// before, both are Closed, or each stands on one connection alone, the same one, in opposite roles: none is in
 /// Wait-Conn-Ack, Wait-Conn-Ack/Elect or Wait-Returns (5.6).
-pub fn octet_quiet_is_joined()
+pub fn quiet_octet_peers_are_closed_or_joined()
     ensures { OctetQuietIsJoined }
 {
-    quiet_is_joined::<Peer, Octets>();
-    octets_are_electing();
+    quiet_peers_are_closed_or_joined::<Peer, Octets>();
+    paired_octet_peers_elect_one();
 }
 
 /// Wherever a run of two new peers that are configured for each other falls quiet, whatever was lost and restarted,
 /// both are Closed, or each stands on one connection alone, the same one, in opposite roles: none is in Wait-Conn-Ack,
 /// Wait-Conn-Ack/Elect or Wait-Returns (5.6).
-pub fn each_octet_quiet_run_is_joined()
+pub fn each_octet_quiet_run_is_closed_or_joined()
     ensures { EachOctetQuietRunIsJoined }
 {
-    closed_is_sound::<Peer, Octets>();
-    each_happening_keeps_sound::<Peer, Octets>();
-    each_happening_keeps_peers();
-    octet_quiet_is_joined();
-    octets_are_a_machine();
+    closed_peers_make_a_sound_world::<Peer, Octets>();
+    each_happening_keeps_worlds_sound::<Peer, Octets>();
+    each_happening_keeps_peers_paired();
+    quiet_octet_peers_are_closed_or_joined();
+    octet_peers_move_as_the_machine();
 }
 
 /// Peers over octets match an answer with its request by the Hop-by-Hop Identifier, at the exchanges that open and end
 /// a connection: a CER is answered by the CEA of its number, and a DPR by the DPA of its number, whatever came in
 /// between, and neither is dropped by the peer that awaits it (3, 5.3, 5.4 and 6.2.1).
-pub fn octet_answers_match()
+pub fn octet_peers_match_ceas_and_dpas()
     ensures { OctetAnswersMatch }
 {
-    built_is_own();
-    built_is_spelled();
-    canonical_spells();
+    built_messages_are_good();
+    octets_spell_built_messages();
+    canonical_octets_spell_message();
     each_connection_changes_as_allowed();
-    each_event_is_a_case();
-    each_node_has_its_form();
+    events_are_steps_drops_or_refusals();
+    shaped_nodes_have_eight_forms();
     each_order_is_a_command();
-    each_step_is_one_of_few();
+    few_steps_stand_for_all();
     each_step_keeps_shape();
-    spelled_is_found();
-    unread_words_are_alike();
+    spelled_message_is_found();
+    what_unread_messages_say_makes_no_difference();
 }
 
 /// Wherever a run of two new peers that are configured for each other falls quiet, whatever was lost and restarted,
@@ -173,44 +184,44 @@ pub fn octet_answers_match()
 pub fn each_octet_quiet_run_is_closed_or_open()
     ensures { EachOctetQuietRunIsClosedOrOpen }
 {
-    closed_is_sound::<Peer, Octets>();
-    each_happening_keeps_sound::<Peer, Octets>();
-    each_happening_keeps_peers();
+    closed_peers_make_a_sound_world::<Peer, Octets>();
+    each_happening_keeps_worlds_sound::<Peer, Octets>();
+    each_happening_keeps_peers_paired();
     each_quiet_run_is_closed_or_open::<Peer, Octets>();
-    octet_answers_match();
-    octets_are_a_machine();
-    octets_are_electing();
+    octet_peers_match_ceas_and_dpas();
+    octet_peers_move_as_the_machine();
+    paired_octet_peers_elect_one();
 }
 
 /// Peers over octets carry messages of applications: what is submitted in an open state is sent as it is, no other
 /// event sends such a message, and one that comes on the open connection is handed up as it is, and nothing else is.
-pub fn octets_carry()
+pub fn octet_peers_carry_user_messages()
     ensures { OctetsCarry }
 {
     each_connection_changes_as_allowed();
-    each_node_has_its_form();
-    each_step_is_one_of_few();
-    open_connections_carry();
+    shaped_nodes_have_eight_forms();
+    few_steps_stand_for_all();
+    open_connections_carry_user_messages();
 }
 
 /// After every list of happenings of two new peers, losses and restarts too and whatever their configurations, what a
 /// side's user was handed up on a link is a front of what the other side's user submitted on it: each message once, in
 /// order, octet for octet, and nothing else. Where the side is open on the link and the link had no loss, the rest is
 /// what is under way.
-pub fn each_octet_run_delivers()
+pub fn each_octet_run_delivers_in_order()
     ensures { EachOctetRunDelivers }
 {
-    each_run_delivers::<Peer, Octets>();
-    octets_are_a_machine();
-    octets_carry();
+    each_run_delivers_in_order::<Peer, Octets>();
+    octet_peers_move_as_the_machine();
+    octet_peers_carry_user_messages();
 }
 
 /// What two new peers, whatever their configurations, hand up at an event of any list of happenings are the octets that
 /// it brings, once, or nothing: nothing is handed up but where a message arrives.
-pub fn each_octet_run_hands_up_what_came()
+pub fn each_octet_run_hands_up_only_arrivals()
     ensures { EachOctetRunHandsUpWhatCame }
 {
-    each_run_hands_up_what_came::<Peer, Octets>();
-    octets_are_a_machine();
-    octets_carry();
+    each_run_hands_up_only_arrivals::<Peer, Octets>();
+    octet_peers_move_as_the_machine();
+    octet_peers_carry_user_messages();
 }

@@ -29,3 +29,10 @@ impl Default for Action {
 
 /// What one event asks for, in the order in which it is to be done.
 pub type Actions = ArrayVec<Action, 4>;
+
+/// Drops the actions that a refused event put in.
+// (It is rare, and in a function of its own in the machine's code too.)
+#[inline(never)]
+pub(crate) fn drop_actions(actions: Actions) {
+    drop(actions);
+}

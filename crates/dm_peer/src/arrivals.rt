@@ -1,4 +1,5 @@
-//! Which octets that come are looked at, and which answers are dropped.
+//! Which octets that come are looked at, by the state and by how their connection stands to the peer, and which answers
+//! are dropped.
 ghost use Rattle.std.specs.Prelude.{◌≡◌, ◌&&◌};
 ghost use Rattle.dm_machine.specs.Connection.{hold_of};
 ghost use Rattle.dm_machine.specs.Unread.{reads_first};
@@ -7,7 +8,7 @@ ghost use Rattle.dm_peer.specs.Places.{is_on, before_ack, footing_of, has_made};
 
 use crate::standing::Awaited;
 use dm_base::is_base_command;
-use dm_machine::laws::each_node_has_its_form;
+use dm_machine::laws::shaped_nodes_have_eight_forms;
 use dm_machine::{Conn, Core, State};
 use dm_wire::Header;
 
@@ -46,7 +47,7 @@ fn awaits_conn_ack(state: State) -> bool
 pub(crate) fn connection_footing(core: &Core, conn: Conn) -> Footing
     ensures { result ≡ footing_of (hold_of core.now conn) }
 {
-    each_node_has_its_form();
+    shaped_nodes_have_eight_forms();
     let state = core.state();
     if is_held_connection(core.initiated(), conn) {
         if awaits_conn_ack(state) {
@@ -72,7 +73,7 @@ fn reads_first_message(state: State) -> bool
 }
 
 /// Whether octets on a connection that stands so aren't looked at.
-pub(crate) fn is_unread(state: State, footing: Footing) -> bool
+pub(crate) fn leaves_octets_unread(state: State, footing: Footing) -> bool
     ensures { result ≡ is_unread_on state footing }
 {
     match footing {
@@ -89,11 +90,11 @@ fn is_unawaited_answer(awaited: &Awaited, header: &Header) -> bool
     if header.request || !is_base_command(header.command) {
         return false;
     }
-    awaited.number_of(header.command) != Some(header.hop_id)
+    awaited.awaited_hop_id(header.command) != Some(header.hop_id)
 }
 
 /// Whether a message of this header is dropped on a connection that stands so.
-pub(crate) fn is_dropped(awaited: &Awaited, footing: Footing, header: &Header) -> bool
+pub(crate) fn is_message_dropped(awaited: &Awaited, footing: Footing, header: &Header) -> bool
     ensures { result ≡ (has_made footing && is_unawaited awaited.now header.now) }
 {
     match footing {

@@ -1,4 +1,5 @@
-//! What commands ask for: the octets of the messages that a peer sends (RFC 6733, 5.3 to 5.6).
+//! What the commands of a step ask for: an action for each, by the event, by what was heard, and by the CER that waits
+//! (RFC 6733, 5.3 to 5.6).
 ghost use Rattle.std.specs.Prelude.{◌≡◌, ◌<◌, ◌≤◌, ◌+◌, ◌++◌, ◌∷◌, [], IfOk, OnOk, OnErr, IsTrue, length};
 ghost use Rattle.std.specs.List.{list_any};
 ghost use Rattle.arrayvec.specs.ArrayVec.{array_vec_len};
@@ -17,8 +18,8 @@ ghost use Rattle.dm_peer.specs.Sent.{
 
 use crate::heard_message::{HeardRef, fault_of_heard, header_heard_or_zeros};
 use crate::sending::{
-    push_send, push_send_cea, push_send_cer, push_send_dpr, push_send_dwa_or_dpa, push_send_dwr,
-    refusing_answer,
+    push_send, push_send_cer, push_send_dpr, push_send_dwr, push_send_success_cea,
+    push_send_success_dwa_or_dpa, refusing_answer,
 };
 use crate::{Action, Actions, Event, Peer};
 use dm_base::{Cause, Node};
@@ -83,7 +84,7 @@ fn stop_cause(event: Event<'_>) -> Cause
 
 /// Appends what a command asks for; or want of memory, which only what is sent or handed up takes.
 #[inline(always)]
-fn push_action(
+fn push_action_of_command(
     alloc: Global,
     peer: &Peer,
     event: Event<'_>,
@@ -115,10 +116,10 @@ fn push_action(
         )?,
         Command::SendCea(conn) => {
             let to = answered_cer_header(standing.waiting, heard);
-            push_send_cea(alloc, conn, node, &to, actions)?
+            push_send_success_cea(alloc, conn, node, &to, actions)?
         }
         Command::SendDwa(conn) | Command::SendDpa(conn) => {
-            push_send_dwa_or_dpa(alloc, conn, node, &header_heard_or_zeros(heard), actions)?
+            push_send_success_dwa_or_dpa(alloc, conn, node, &header_heard_or_zeros(heard), actions)?
         }
         Command::SendRefusal(conn) => push_send_refusal(alloc, conn, node, heard, actions)?,
         Command::SendSubmit(conn) => actions.push(Action::Send(
@@ -131,7 +132,7 @@ fn push_action(
 }
 
 /// Appends what the commands ask for, in order; or want of memory, which only what is sent or handed up takes.
-pub(crate) fn push_actions(
+pub(crate) fn push_command_actions(
     alloc: Global,
     peer: &Peer,
     event: Event<'_>,
@@ -147,7 +148,7 @@ pub(crate) fn push_actions(
 {
     let mut left = commands;
     while let [command, rest @ ..] = left {
-        push_action(alloc, peer, event, heard, *command, actions)?;
+        push_action_of_command(alloc, peer, event, heard, *command, actions)?;
         left = rest;
     }
     Ok(())

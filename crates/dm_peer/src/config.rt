@@ -1,4 +1,4 @@
-//! Configurations: a node and the peer that it is configured for.
+//! Configurations: a node and the peer that it is configured for, which is another host.
 ghost use Rattle.std.specs.Prelude.{◌≡◌, ◌⊎◌, ◌↔◌, IfOk, IfErr, Some, Err, true, false};
 ghost use Rattle.dm_base.specs.Before.{lower};
 ghost use Rattle.dm_base.specs.Fit.{is_name};
@@ -124,7 +124,7 @@ impl Config {
         if let Some(fault) = fault_of_hosts(self.node.host(), host) {
             return Err(fault);
         }
-        match self.copied_for_host(alloc, host) {
+        match self.copy_for_host(alloc, host) {
             Ok(config) => Ok(config),
             Err(_) => Err(ConfigFault::NoMemory),
         }
@@ -161,7 +161,7 @@ impl Config {
     }
 
     /// A copy whose peer is this host, which can be its peer; or want of memory.
-    fn copied_for_host(&self, alloc: Global, host: &[u8]) -> Result<Config, AllocError>
+    fn copy_for_host(&self, alloc: Global, host: &[u8]) -> Result<Config, AllocError>
         requires name { is_name host.now ≡ true }
         requires other { is_same_host self.now.node.host host.now ≡ false }
         ensures node { IfOk result (λ config. config.node ≡ self.now.node) }

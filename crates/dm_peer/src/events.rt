@@ -1,4 +1,5 @@
-//! What a peer is told: commands of its user, the passing of time, and what happens on connections.
+//! What a peer is told: commands of its user, the passing of time, and what happens on connections; and the range of
+//! octets that it is told.
 ghost use Rattle.dm_peer.specs.Events.{event_told, octets_in};
 ghost use Rattle.dm_wire.specs.Octets.{AreOctets};
 

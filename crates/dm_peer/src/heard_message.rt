@@ -33,7 +33,7 @@ use dm_base::{BaseCommand, CapsRef, KindRef, SenderRef, view};
 use dm_dict::{Failed, Judged};
 use dm_machine::Word;
 use dm_wire::codes::results::UNABLE_TO_COMPLY;
-use dm_wire::laws::spelled_are_members;
+use dm_wire::laws::spelled_avps_are_members;
 use dm_wire::{Header, MessageRef};
 
 /// A message that was read, with its parts where they lie: its header, its word, and why it is refused, where it is
@@ -60,7 +60,7 @@ fn word_of_bad_message(header: &Header) -> Word
 }
 
 /// The Result-Code with which the capabilities of a peer are refused; None where they are not.
-fn refusal_of_caps(config: &Config, caps: &CapsRef<'_>) -> Option<u32>
+fn refusal_code_of_caps(config: &Config, caps: &CapsRef<'_>) -> Option<u32>
     ensures { (theirs : Caps) → ShowsCaps caps.now theirs → result ≡ refusal_of_caps config.now theirs }
 {
     if !is_same_host(caps.host, config.peer.as_slice()) {
@@ -90,11 +90,11 @@ pub(crate) fn heard_as_good<'a>(header: &'a Header, word: Word) -> HeardRef<'a>
 /// A CER that passes its check, refused where the capabilities that it tells are.
 // (It is rare, and in a function of its own in the machine's code too.)
 #[inline(never)]
-fn heard_cer<'a>(config: &Config, header: &'a Header, caps: &CapsRef<'_>) -> HeardRef<'a>
+fn accept_or_refuse_cer<'a>(config: &Config, header: &'a Header, caps: &CapsRef<'_>) -> HeardRef<'a>
     ensures { (theirs : Caps) → ShowsCaps caps.now theirs
         → heard_of result ≡ heard_caps header.now (refusal_of_caps config.now theirs) }
 {
-    match refusal_of_caps(config, caps) {
+    match refusal_code_of_caps(config, caps) {
         None => heard_as_good(header, Word::Cer),
         Some(code) => HeardRef {
             header,
@@ -123,7 +123,7 @@ fn sender_host<'a>(message: &MessageRef<'a>) -> &'a [u8]
     ensures { (l : List Avp) → SpellsList l message.now.rest.now
         → result.now ≡ sender_host (record { header = message.now.header; avps = l }) }
 {
-    spelled_are_members();
+    spelled_avps_are_members();
     let sender = SenderRef { rest: message.rest };
     sender.host()
 }
@@ -152,7 +152,7 @@ fn word_of_cea(config: &Config, message: &MessageRef<'_>, code: u32) -> Word
 
 /// A message of this kind, put into `heard`, which says of its header that it is good.
 #[inline(always)]
-fn hear_kind<'a>(
+fn set_heard_by_kind<'a>(
     config: &Config,
     message: &'a MessageRef<'_>,
     kind: KindRef<'_>,
@@ -163,7 +163,7 @@ fn hear_kind<'a>(
         → heard_of heard.new ≡ said_by_kind config.now (record { header = message.now.header; avps = l }) k }
 {
     match kind {
-        KindRef::Cer(caps) => *heard = heard_cer(config, &message.header, &caps),
+        KindRef::Cer(caps) => *heard = accept_or_refuse_cer(config, &message.header, &caps),
         KindRef::Cea(code) => heard.word = word_of_cea(config, message, code),
         KindRef::Dwr => heard.word = Word::Dwr,
         KindRef::Dwa => heard.word = Word::Dwa,
@@ -186,7 +186,7 @@ pub(crate) fn hear_message<'a>(
         → heard_of heard.new ≡ heard_in config.now (record { header = message.now.header; avps = l }) }
 {
     match view(config.dictionary.get(), message) {
-        Ok(kind) => hear_kind(config, message, kind, heard),
+        Ok(kind) => set_heard_by_kind(config, message, kind, heard),
         Err(judged) => {
             heard.word = word_of_bad_message(&message.header);
             heard.judged = judged;

@@ -8,7 +8,9 @@ ghost use Rattle.dm_peer.specs.Spelled.{SendsSpelling};
 ghost use Rattle.dm_peer.specs.Strangers.{AreStrange, TurnsAway};
 
 use crate::events::event_octets_are_in_range;
-use crate::laws::{each_event_keeps_settled, each_send_is_spelled, strangers_change_nothing};
+use crate::laws::{
+    each_event_keeps_peers_settled, each_send_spells_a_message, strangers_change_nothing,
+};
 use crate::standing::{Kept, Standing};
 use crate::steps::handle_event;
 use crate::{Actions, Event, Peer, PeerFault};
@@ -25,8 +27,8 @@ pub(crate) fn kept_standing(
     requires { acts peer.now (event_told event) ≡ Moved actions.now.items (standing_at peer.now standing) }
     ensures { result ≡ standing }
 {
-    each_event_keeps_settled();
-    each_send_is_spelled();
+    each_event_keeps_peers_settled();
+    each_send_spells_a_message();
     event_octets_are_in_range(event);
     let _kept = peer.standing.get();
     Kept::new(standing)
@@ -49,7 +51,7 @@ pub(crate) fn handle_event_of_kept_peer(
         → AreStrange peer.old conn octets
         → OnOk result (TurnsAway conn actions.new.items × (peer.new ≡ peer.old)) }
 {
-    each_send_is_spelled();
+    each_send_spells_a_message();
     strangers_change_nothing();
     event_octets_are_in_range(event);
     let _kept = peer.standing.get();

@@ -22,42 +22,47 @@ ghost use Rattle.dm_peer.specs.Steps.{EachEventIsOneStep};
 ghost use Rattle.dm_peer.specs.Strangers.{StrangersChangeNothing};
 
 use crate::Peer;
-use dm_base::laws::{built_is_own, built_is_spelled, common_is_shared};
-use dm_machine::laws::{
-    each_connection_changes_as_allowed, each_opening_has_its_message, each_state_decides,
-    each_step_is_one_of_few, each_step_keeps_shape, strangers_are_turned_away,
-    unread_words_are_alike,
+use dm_base::laws::{
+    applications_are_common_by_shared_id_or_relay, built_messages_are_good,
+    octets_spell_built_messages,
 };
-use dm_wire::laws::{canonical_spells, message_in_spells, spelled_is_found};
+use dm_machine::laws::{
+    ceas_open_and_what_is_given_up_is_closed, each_connection_changes_as_allowed,
+    each_state_decides_refusals_and_elections, each_step_keeps_shape, few_steps_stand_for_all,
+    strangers_are_turned_away, what_unread_messages_say_makes_no_difference,
+};
+use dm_wire::laws::{
+    canonical_octets_spell_message, message_in_octets_is_what_they_spell, spelled_message_is_found,
+};
 
 /// What an event comes to, case by case: a step of the state machine, after what was heard; an answer that nothing
 /// awaits, which is dropped; or a Submit that is refused. The law stands for users, and the others rest on it.
-pub fn each_event_is_a_case()
+pub fn events_are_steps_drops_or_refusals()
     ensures { EachEventIsACase }
 {}
 
-/// Each event is one step of the state machine, with an action for each command, which says what is there: an answer
-/// its request, a refusal its fault; or an answer that nothing awaits is dropped, and nothing changes. The law stands
-/// for users.
-pub fn each_event_is_one_step()
+/// Where an event isn't refused it is one step of the state machine, with an action for each command, and what a
+/// settled peer's commands say is there (an answer's request, a refusal's fault); or a message on a connection that is
+/// held and made is dropped, and nothing changes. The law stands for users.
+pub fn done_events_are_steps_or_drops()
     ensures { EachEventIsOneStep }
 {
-    each_step_is_one_of_few();
+    few_steps_stand_for_all();
 }
 
 /// What a peer waits for goes by its state: a new peer's, one's after `reset`, and each event keeps it so. The law
 /// stands for users.
-pub fn each_event_keeps_settled()
+pub fn each_event_keeps_peers_settled()
     ensures fresh { FreshIsSettled }
     ensures kept { EachEventKeepsSettled }
 {
-    each_step_is_one_of_few();
+    few_steps_stand_for_all();
     each_step_keeps_shape();
 }
 
 /// What every peer holds, whatever it was told: what it waits for goes by its state, and its numbers fit their fields.
 /// The law stands for users, as the premise of the others.
-pub fn every_peer_is_kept(peer: &Peer)
+pub fn every_peer_is_settled_with_fitting_numbers(peer: &Peer)
     ensures { IsKept peer.now }
 {
     let _kept = peer.standing.get();
@@ -66,23 +71,23 @@ pub fn every_peer_is_kept(peer: &Peer)
 /// What an event leaves of the connections that a peer holds: it takes none but the one that it names, it closes none
 /// that it holds on to, and one that has ended it doesn't hold. The law stands for users: whoever has a place for each
 /// connection that is held needs one more at the events that name one, and none for what is closed.
-pub fn each_event_names_what_it_takes()
+pub fn only_named_connections_become_held()
     ensures others { OthersStayUnheld }
     ensures closed { ClosedIsUnheld }
     ensures gone { GoneIsUnheld }
 {
-    each_event_is_one_step();
+    done_events_are_steps_or_drops();
     each_connection_changes_as_allowed();
-    each_opening_has_its_message();
+    ceas_open_and_what_is_given_up_is_closed();
 }
 
 /// At a Start, at a Timeout, where octets aren't looked at, and where an answer is dropped, nothing is sent or handed
-/// up.
-pub fn silent_takes_none()
+/// up, so no memory is wanted.
+pub fn silent_events_take_no_memory()
     ensures { SilentTakesNone }
 {
-    each_step_is_one_of_few();
-    unread_words_are_alike();
+    few_steps_stand_for_all();
+    what_unread_messages_say_makes_no_difference();
 }
 
 /// A stranger changes nothing: where octets come on a connection that isn't held, the peer stays what it is, and closes
@@ -94,24 +99,24 @@ pub fn strangers_change_nothing()
     strangers_are_turned_away();
 }
 
-/// An event is refused just by these rules: a Start outside Closed, a Stop or Submit outside the open states, and in
-/// them a Submit of what is no message of the user.
+/// But for want of memory, an event is refused just by these rules: a Start outside Closed, a Stop or Submit outside
+/// the open states, and in them a Submit of what is no message of the user.
 pub fn refusals_go_by_rule()
     ensures { RefusesByRule }
 {
-    each_state_decides();
+    each_state_decides_refusals_and_elections();
 }
 
 /// What a peer sends is a message: at each event the octets of each Send spell one, since the numbers that it goes by
 /// fit their fields. They do at a new peer and at one after `reset`, and each event keeps it so (RFC 6733, 3).
-pub fn each_send_is_spelled()
+pub fn each_send_spells_a_message()
     ensures fresh { FreshIsFitting }
     ensures kept { EachSendIsSpelled }
 {
-    each_step_is_one_of_few();
-    message_in_spells();
-    canonical_spells();
-    built_is_spelled();
+    few_steps_stand_for_all();
+    message_in_octets_is_what_they_spell();
+    canonical_octets_spell_message();
+    octets_spell_built_messages();
 }
 
 /// What is heard of a message has its header.
@@ -119,18 +124,18 @@ pub fn heard_has_its_header()
     ensures { HeardHasItsHeader }
 {}
 
-/// The octets that a message is sent as are heard as that message. The law stands for users.
-pub fn what_is_sent_is_heard()
+/// The octets of a message that has a spelling are heard as that message. The law stands for users.
+pub fn octets_are_heard_as_their_message()
     ensures { SentIsHeard }
 {
-    canonical_spells();
-    spelled_is_found();
+    canonical_octets_spell_message();
+    spelled_message_is_found();
 }
 
 /// What comparing changes: a CEA that passes its check fails where its sender isn't the configured peer, and goes by
 /// its Result-Code without the option; what the configured peer sends, and any other message, says the same with it and
 /// without it. The law stands for users.
-pub fn comparing_fails_other_senders_alone()
+pub fn comparing_hosts_fails_only_other_senders()
     ensures plain { PlainGoesByCode }
     ensures fails { OtherSenderFails }
     ensures peer { PeerIsHeardAlike }
@@ -141,7 +146,7 @@ pub fn comparing_fails_other_senders_alone()
 /// application in common with it; the CEA that accepts it to every peer that doesn't compare hosts, and to one that
 /// does where it is configured for the node; a watchdog, a disconnect and their answers to every peer (RFC 6733, 5.3
 /// to 5.5). The law stands for users: two peers rest on it.
-pub fn sent_is_good()
+pub fn requests_and_successes_are_heard_as_good()
     ensures cer { CerIsGood }
     ensures cea { CeaIsGood }
     ensures dwr { DwrIsGood }
@@ -149,8 +154,8 @@ pub fn sent_is_good()
     ensures dpr { DprIsGood }
     ensures dpa { DpaIsGood }
 {
-    what_is_sent_is_heard();
-    built_is_own();
-    built_is_spelled();
-    common_is_shared();
+    octets_are_heard_as_their_message();
+    built_messages_are_good();
+    octets_spell_built_messages();
+    applications_are_common_by_shared_id_or_relay();
 }

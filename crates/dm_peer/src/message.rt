@@ -7,7 +7,7 @@ ghost use Rattle.dm_wire.specs.Whole.{message_in};
 ghost use Rattle.dm_peer.specs.Octets.{octets_of};
 
 use dm_dict::NoMemory;
-use dm_wire::laws::{message_in_spells, no_message_refused};
+use dm_wire::laws::{message_in_octets_is_what_they_spell, octets_of_messages_have_no_fault};
 use dm_wire::{Message, MessageRef, Octets};
 use std::alloc::Global;
 
@@ -18,8 +18,8 @@ pub fn read_message(octets: &[u8]) -> Option<MessageRef<'_>>
         (λ read. (l : List Avp) × SpellsList l read.rest.now
         × (message_in octets.now ≡ Some (record { header = read.header; avps = l }))) }
 {
-    message_in_spells();
-    no_message_refused();
+    message_in_octets_is_what_they_spell();
+    octets_of_messages_have_no_fault();
     match MessageRef::read(octets) {
         Ok(message) => Some(message),
         Err(_) => None,

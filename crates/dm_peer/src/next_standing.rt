@@ -9,7 +9,7 @@ ghost use Rattle.dm_peer.specs.Said.{Heard, word_heard};
 
 use crate::heard_message::{HeardRef, header_heard, word_heard};
 use crate::kept_peer::kept_standing;
-use crate::requests::Request;
+use crate::requests::{Request, is_dwr};
 use crate::standing::{Awaited, Standing};
 use crate::{Actions, Event, Peer};
 use dm_machine::{Core, State, Word};
@@ -51,22 +51,12 @@ fn awaited_cea_after(sent: Option<Request>, state: State, standing: &Standing) -
 }
 
 /// The number of the DWR that awaits its answer, once this was heard: a good DWA in an open state takes it away.
-fn awaited_dwa_left(before: State, word: Word, old: Option<u32>) -> Option<u32>
+fn awaited_dwa_after_word(before: State, word: Word, old: Option<u32>) -> Option<u32>
     ensures { (h : Option Heard) → word_heard h ≡ word → result ≡ dwa_left before h old }
 {
     match word {
         Word::Dwa => if before.is_open() { None } else { old },
         _ => old,
-    }
-}
-
-/// Whether the request is a DWR.
-fn is_dwr(sent: Option<Request>) -> bool
-    ensures { result ≡ is_dwr sent }
-{
-    match sent {
-        Some(Request::Dwr) => true,
-        _ => false,
     }
 }
 
@@ -129,7 +119,7 @@ fn standing_after_step(
     ensures { result ≡ standing_after standing.now (heard_by heard.entry) sent core }
 {
     let (before, after) = (standing.core.state(), core.state());
-    let left = awaited_dwa_left(before, word_heard(heard), standing.awaited.dwa);
+    let left = awaited_dwa_after_word(before, word_heard(heard), standing.awaited.dwa);
     Standing {
         core,
         next: next_number_after(sent, standing.next),
@@ -160,7 +150,7 @@ pub(crate) fn set_standing_after_step(
     let standing = peer.standing.get();
     let after = match core.state() {
         State::ROpen | State::IOpen => {
-            let left = awaited_dwa_left(
+            let left = awaited_dwa_after_word(
                 standing.core.state(),
                 word_heard(heard),
                 standing.awaited.dwa,

@@ -16,29 +16,23 @@ ghost use Rattle.dm_peer.specs.Strangers.{AreStrange, TurnsAway};
 ghost use Rattle.dm_peer.specs.declared.fault.PeerFault.{PeerFault};
 ghost use Rattle.dm_peer.specs.declared.fault.PeerFault.TheVariants.{NoMemory};
 
+use crate::actions::drop_actions;
 use crate::arrivals::is_held_connection;
 use crate::kept_peer::handle_event_of_kept_peer;
-use crate::laws::{refusals_go_by_rule, silent_takes_none};
+use crate::laws::{refusals_go_by_rule, silent_events_take_no_memory};
 use crate::standing::Kept;
 use crate::{Actions, Config, Event, PeerFault};
 use arrayvec::ArrayVec;
-use dm_machine::laws::each_node_has_its_form;
+use dm_machine::laws::shaped_nodes_have_eight_forms;
 use dm_machine::{Conn, State};
 use std::alloc::Global;
 
 /// A peer: its configuration, and where it stands (RFC 6733, 5.6). What holds of each is said by
-/// `laws::every_peer_is_kept`.
+/// `laws::every_peer_is_settled_with_fitting_numbers`.
 #[derive(Debug, Drop)]
 pub struct Peer {
     pub(crate) config: Config,
     pub(crate) standing: Kept,
-}
-
-/// Drops the actions that a refused event put in.
-// (It is rare, and in a function of its own in the machine's code too.)
-#[inline(never)]
-fn drop_actions(actions: Actions) {
-    drop(actions);
 }
 
 impl Peer {
@@ -122,7 +116,7 @@ impl Peer {
             → AreStrange self.old conn octets
             → OnOk result (TurnsAway conn actions.new.items × (self.new ≡ self.old)) }
     {
-        silent_takes_none();
+        silent_events_take_no_memory();
         refusals_go_by_rule();
         let _shaped = self.state();
         handle_event_of_kept_peer(alloc, self, event, actions)
@@ -161,7 +155,7 @@ impl Peer {
     pub fn holds(&self, conn: Conn) -> bool
         ensures { result ≡ holds conn self.now }
     {
-        each_node_has_its_form();
+        shaped_nodes_have_eight_forms();
         let _shaped = self.state();
         is_held_connection(self.initiated(), conn) || is_held_connection(self.accepted(), conn)
     }
@@ -178,6 +172,6 @@ impl Peer {
     pub fn awaited(&self, command: u32) -> Option<u32>
         ensures { result ≡ awaited_of self.now.standing.awaited command }
     {
-        self.standing.get().awaited.number_of(command)
+        self.standing.get().awaited.awaited_hop_id(command)
     }
 }

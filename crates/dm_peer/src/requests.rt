@@ -1,6 +1,6 @@
 //! The requests that the commands of a step send, by which the numbers of a peer go.
 ghost use Rattle.std.specs.Prelude.{◌≡◌};
-ghost use Rattle.dm_peer.specs.After.{request_of, request_in};
+ghost use Rattle.dm_peer.specs.After.{is_dwr, request_of, request_in};
 
 use dm_machine::Command;
 
@@ -10,6 +10,16 @@ pub(crate) enum Request {
     Cer,
     Dwr,
     Dpr,
+}
+
+/// Whether the request is a DWR.
+pub(crate) fn is_dwr(sent: Option<Request>) -> bool
+    ensures { result ≡ is_dwr sent }
+{
+    match sent {
+        Some(Request::Dwr) => true,
+        _ => false,
+    }
 }
 
 /// The request that the command sends; None where it sends none.

@@ -1,4 +1,5 @@
-//! The messages that a peer sends, as octets (RFC 6733, 5.3 to 5.6).
+//! The sending of a peer's own messages, as octets: its requests, its answers of success, and those that refuse
+//! (RFC 6733, 5.3 to 5.6).
 ghost use Rattle.std.specs.Prelude.{◌≡◌, ◌<◌, ◌++◌, ◌∷◌, [], IfOk, OnOk, None};
 ghost use Rattle.std.specs.Option.{option_copied};
 ghost use Rattle.arrayvec.specs.ArrayVec.{array_vec_len};
@@ -81,7 +82,7 @@ pub(crate) fn push_send_dpr(
 
 /// Appends the sending of a CEA of success to a request of this header; or want of memory.
 #[inline(never)]
-pub(crate) fn push_send_cea(
+pub(crate) fn push_send_success_cea(
     alloc: Global,
     conn: Conn,
     node: &Node,
@@ -98,7 +99,7 @@ pub(crate) fn push_send_cea(
 /// The octets of a DWA or DPA of success.
 #[tactic(auto, unfolding(crate::specs::Octets::octets_of))]
 #[inline(always)]
-fn dwa_or_dpa_octets(alloc: Global, node: &Node, to: &Header) -> Result<Octets, NoMemory>
+fn success_dwa_or_dpa_octets(alloc: Global, node: &Node, to: &Header) -> Result<Octets, NoMemory>
     ensures { IfOk result (λ octets. octets ≡ octets_of (built_answer node.now to.now success None)) }
 {
     match success_octets(alloc, node, to) {
@@ -108,7 +109,7 @@ fn dwa_or_dpa_octets(alloc: Global, node: &Node, to: &Header) -> Result<Octets, 
 }
 
 /// Appends the sending of a DWA or DPA of success to a request of this header; or want of memory.
-pub(crate) fn push_send_dwa_or_dpa(
+pub(crate) fn push_send_success_dwa_or_dpa(
     alloc: Global,
     conn: Conn,
     node: &Node,
@@ -119,7 +120,7 @@ pub(crate) fn push_send_dwa_or_dpa(
     ensures { OnOk result (actions.new.items
         ≡ actions.old.items ++ sent conn (built_answer node.now to.now success None) ∷ []) }
 {
-    let answer = dwa_or_dpa_octets(alloc, node, to)?;
+    let answer = success_dwa_or_dpa_octets(alloc, node, to)?;
     actions.push(Action::Send(conn, answer));
     Ok(())
 }

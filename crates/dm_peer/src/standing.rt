@@ -1,4 +1,4 @@
-//! Where a peer stands: its core, its next number, and what it waits for.
+//! Where a peer stands: its core, its next number, and what it waits for; and the same with what holds of every peer.
 ghost use Rattle.std.specs.Prelude.{◌≡◌};
 ghost use Rattle.dm_peer.specs.After.{awaited_of, nothing_awaited, fresh_standing};
 
@@ -48,7 +48,7 @@ impl Awaited {
     }
 
     /// The number of the request of the command that awaits its answer: 257, 280 or 282. None for other commands.
-    pub(crate) fn number_of(&self, command: u32) -> Option<u32>
+    pub(crate) fn awaited_hop_id(&self, command: u32) -> Option<u32>
         ensures { result ≡ awaited_of self.now command }
     {
         match BaseCommand::of(command)? {
@@ -111,6 +111,7 @@ impl Kept {
         }
     }
 
+    /// This standing, of which what holds of every peer's is shown.
     pub(crate) fn new(standing: Standing) -> Kept
         requires { IsKeptAt standing }
         ensures { result ≡ standing }

@@ -1,4 +1,5 @@
-//! What an event comes to: the octets that it brings are read, and the state machine takes one step.
+//! What an event comes to: the octets that came or are submitted are read, and the state machine takes one step, by an
+//! election where the state can hold one.
 ghost use Rattle.std.specs.Prelude.{◌≡◌, ◌&&◌, IfOk, IfErr, OnOk, OnErr, List, [], Some};
 ghost use Rattle.dm_wire.specs.declared.avp.Avp.{Avp};
 ghost use Rattle.dm_wire.specs.Spelling.{SpellsList};
@@ -23,22 +24,22 @@ ghost use Rattle.dm_peer.specs.Faults.{fault_of};
 ghost use Rattle.dm_peer.specs.Places.{footing_of};
 ghost use Rattle.dm_peer.specs.Lent.{heard_by};
 
-use crate::arrivals::{Footing, connection_footing, is_dropped, is_unread};
-use crate::command_actions::push_actions;
+use crate::arrivals::{Footing, connection_footing, is_message_dropped, leaves_octets_unread};
+use crate::command_actions::push_command_actions;
 use crate::heard_message::{HeardRef, hear_message, heard_as_good, word_heard};
 use crate::message::read_message;
 use crate::next_standing::set_standing_after_step;
 use crate::requests::first_request;
 use crate::{Actions, Config, Event, Peer, PeerFault};
 use dm_base::is_base_command;
-use dm_machine::laws::each_state_decides;
+use dm_machine::laws::each_state_decides_refusals_and_elections;
 use dm_machine::{Commands, Conn, Core, Input, State, Word, step};
 use dm_wire::MessageRef;
-use dm_wire::laws::{message_in_spells, no_message_refused};
+use dm_wire::laws::{message_in_octets_is_what_they_spell, octets_of_messages_have_no_fault};
 use std::alloc::Global;
 
 /// Whether the state can hold an election.
-fn holds_elections(state: State) -> bool
+fn can_hold_election(state: State) -> bool
     ensures { result ≡ holds_elections state }
 {
     match state {
@@ -48,10 +49,10 @@ fn holds_elections(state: State) -> bool
 }
 
 /// Whether the own side wins where an election can be held: elsewhere hosts aren't compared.
-fn wins_if_election(config: &Config, state: State) -> bool
+fn wins_election_in(config: &Config, state: State) -> bool
     ensures { result ≡ (holds_elections state && wins config.now) }
 {
-    holds_elections(state) && config.wins_election()
+    can_hold_election(state) && config.wins_election()
 }
 
 /// One step of the state machine.
@@ -61,8 +62,8 @@ fn step_core(core: &Core, input: Input, config: &Config) -> Result<(Core, Comman
     ensures refused { IfErr result (λ f. (r : Refusal)
         × (turned core.now input (wins config.now) ≡ moves.NodeRefused r) × (f ≡ fault_of r)) }
 {
-    each_state_decides();
-    match step(core, input, wins_if_election(config, core.state())) {
+    each_state_decides_refusals_and_elections();
+    match step(core, input, wins_election_in(config, core.state())) {
         Ok(turn) => Ok(turn),
         Err(refusal) => Err(PeerFault::from(refusal)),
     }
@@ -102,7 +103,7 @@ fn step_peer(
 {
     let input = input_of_event(event, heard);
     let (core, commands) = step_core(&peer.standing.get().core, input, &peer.config)?;
-    push_actions(alloc, peer, event, heard, commands.as_slice(), actions)?;
+    push_command_actions(alloc, peer, event, heard, commands.as_slice(), actions)?;
     let sent = first_request(commands.as_slice());
     set_standing_after_step(peer, event, heard, sent, core, actions);
     Ok(())
@@ -127,7 +128,7 @@ fn handle_message(
     ensures refused { IfErr result (IsRefused (acts peer.old (event_told event.entry))) }
     ensures unchanged { OnErr result (peer.new ≡ peer.old) }
 {
-    if is_dropped(&peer.standing.get().awaited, footing, &message.header) {
+    if is_message_dropped(&peer.standing.get().awaited, footing, &message.header) {
         return Ok(());
     }
     let mut heard = heard_as_good(&message.header, Word::Other);
@@ -151,11 +152,11 @@ fn handle_arrival(
 {
     let core = &peer.standing.get().core;
     let footing = connection_footing(core, conn);
-    if is_unread(core.state(), footing) {
+    if leaves_octets_unread(core.state(), footing) {
         return step_peer(alloc, peer, Event::Arrived(conn, octets), None, actions);
     }
-    message_in_spells();
-    no_message_refused();
+    message_in_octets_is_what_they_spell();
+    octets_of_messages_have_no_fault();
     let event = Event::Arrived(conn, octets);
     // (It is told where it is read, and isn't moved.)
     match &MessageRef::read(octets) {

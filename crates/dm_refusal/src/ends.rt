@@ -20,7 +20,7 @@ pub enum End {
 }
 
 /// How a call ended that answered, as its row or not, and of which a request was refused or none.
-pub fn answered(refused: bool, right: bool) -> End
+pub fn end_of_answered_call(refused: bool, right: bool) -> End
     ensures right { result ≡ End.Whole → right ≡ true }
     ensures unrefused { result ≡ End.Whole → refused ≡ false }
 {
@@ -35,7 +35,7 @@ pub fn answered(refused: bool, right: bool) -> End
 
 /// How a call ended that wanted memory, as a request was refused or though none was, and then answered as its row or
 /// not.
-pub fn repeated(refused: bool, right: bool) -> End
+pub fn end_of_repeated_call(refused: bool, right: bool) -> End
     ensures right { result ≡ End.Again → right ≡ true }
     ensures refused { result ≡ End.Again → refused ≡ true }
 {
@@ -49,7 +49,7 @@ pub fn repeated(refused: bool, right: bool) -> End
 }
 
 /// The first end, or the second where that is worse: Whole is best, then Again.
-pub fn worse(one: End, other: End) -> End
+pub fn worse_end(one: End, other: End) -> End
     ensures one { result ≡ End.Whole → one ≡ End.Whole }
     ensures other { result ≡ End.Whole → other ≡ End.Whole }
 {

@@ -7,7 +7,10 @@ mod making;
 mod orders;
 mod subject;
 
-pub use ends::{End, answered, repeated, worse};
-pub use making::{Making, last_made};
-pub use orders::{refuse, refuse_each, was_asked, was_larger, was_refused};
-pub use subject::{Subject, last};
+pub use ends::{End, end_of_answered_call, end_of_repeated_call, worse_end};
+pub use making::{Making, refuse_requests_while_making};
+pub use orders::{
+    refuse_each_request, refuse_nth_request, was_request_larger_than, was_request_made,
+    was_request_refused,
+};
+pub use subject::{Subject, refuse_requests_in_turn};

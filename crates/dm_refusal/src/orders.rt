@@ -21,36 +21,36 @@ const ASKED: usize = ORDER | 1 << 59;
 const LARGER: usize = ORDER | 1 << 58;
 
 /// Whether a block of so many octets is to be had.
-fn can_allocate(alloc: Global, size: usize) -> bool {
+fn try_allocate(alloc: Global, size: usize) -> bool {
     let block: Result<Vec<u8>, AllocError> = Vec::with_capacity(alloc, size);
     block.is_ok()
 }
 
 /// The nth request from here on is refused; at 0 none is.
-pub fn refuse(alloc: Global, nth: u32) {
-    can_allocate(alloc, ORDER | (nth as usize));
+pub fn refuse_nth_request(alloc: Global, nth: u32) {
+    try_allocate(alloc, ORDER | (nth as usize));
 }
 
 /// Each request from here on is refused.
-pub fn refuse_each(alloc: Global) {
-    can_allocate(alloc, EACH | 1);
+pub fn refuse_each_request(alloc: Global) {
+    try_allocate(alloc, EACH | 1);
 }
 
 /// Whether a request was refused since the last order. None is from here on.
-pub fn was_refused(alloc: Global) -> bool {
-    let refused = can_allocate(alloc, REFUSED);
-    refuse(alloc, 0);
+pub fn was_request_refused(alloc: Global) -> bool {
+    let refused = try_allocate(alloc, REFUSED);
+    refuse_nth_request(alloc, 0);
     refused
 }
 
 /// Whether a request was made since the last order, refused or not. None is refused from here on.
-pub fn was_asked(alloc: Global) -> bool {
-    let asked = can_allocate(alloc, ASKED);
-    refuse(alloc, 0);
+pub fn was_request_made(alloc: Global) -> bool {
+    let asked = try_allocate(alloc, ASKED);
+    refuse_nth_request(alloc, 0);
     asked
 }
 
 /// Whether more than so many octets were asked for at once since the last order.
-pub fn was_larger(alloc: Global, octets: u32) -> bool {
-    can_allocate(alloc, LARGER | (octets as usize))
+pub fn was_request_larger_than(alloc: Global, octets: u32) -> bool {
+    try_allocate(alloc, LARGER | (octets as usize))
 }

@@ -30,7 +30,11 @@ fn node_of_host(alloc: Global, own: HostLine<'_>) -> Result<Node, AllocError>
 }
 
 /// The configuration of a peer for the other one.
-pub fn config(alloc: Global, own: HostLine<'_>, other: HostLine<'_>) -> Result<Config, AllocError>
+pub fn config_of_hosts(
+    alloc: Global,
+    own: HostLine<'_>,
+    other: HostLine<'_>,
+) -> Result<Config, AllocError>
     requires own { is_name own.host.now ≡ true }
     requires other { is_name other.host.now ≡ true }
     requires differ { lower own.host.now ≡ lower other.host.now → ⊥ }

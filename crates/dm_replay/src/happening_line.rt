@@ -5,8 +5,9 @@ ghost use Rattle.dm_world.specs.declared.happening.Happening.{Happening};
 ghost use Rattle.dm_replay.specs.HappeningLines.{verb_of, TellsArguments, TellsHappening};
 
 use crate::arguments::{
-    link_alone, link_and_numbers, link_and_side, link_side_and_number, side_alone, side_and_cause,
-    side_and_word,
+    only_link_and_side_left, only_link_and_two_numbers_left, only_link_left,
+    only_link_side_and_number_left, only_side_and_cause_left, only_side_and_word_left,
+    only_side_left,
 };
 use crate::verb::{Verb, read_verb};
 use dm_machine::Conn;
@@ -39,26 +40,26 @@ fn read_happening_of_verb(verb: Verb, left: &mut Words<'_>) -> Option<Happening>
     ensures none { IfNone result ((h : Happening) → verb_of h ≡ verb → TellsArguments h (words left.old) → ⊥) }
 {
     match verb {
-        Verb::Start => Some(Happening::Start(side_alone(left)?)),
+        Verb::Start => Some(Happening::Start(only_side_left(left)?)),
         Verb::Stop => {
-            let (side, cause) = side_and_cause(left)?;
+            let (side, cause) = only_side_and_cause_left(left)?;
             Some(Happening::Stop(side, cause))
         }
-        Verb::Timeout => Some(Happening::Timeout(side_alone(left)?)),
-        Verb::Tick => Some(Happening::Tick(side_alone(left)?)),
-        Verb::Restart => Some(Happening::Restart(side_alone(left)?)),
-        Verb::Ack => Some(Happening::Ack(Conn(link_alone(left)?))),
-        Verb::Nack => Some(Happening::Nack(Conn(link_alone(left)?))),
+        Verb::Timeout => Some(Happening::Timeout(only_side_left(left)?)),
+        Verb::Tick => Some(Happening::Tick(only_side_left(left)?)),
+        Verb::Restart => Some(Happening::Restart(only_side_left(left)?)),
+        Verb::Ack => Some(Happening::Ack(Conn(only_link_left(left)?))),
+        Verb::Nack => Some(Happening::Nack(Conn(only_link_left(left)?))),
         Verb::Deliver => {
-            let (link, side) = link_and_side(left)?;
+            let (link, side) = only_link_and_side_left(left)?;
             Some(Happening::Deliver(Conn(link), side))
         }
         Verb::Piece => {
-            let (link, side, count) = link_side_and_number(left)?;
+            let (link, side, count) = only_link_side_and_number_left(left)?;
             Some(Happening::Piece(Conn(link), side, count))
         }
         Verb::Lose => {
-            let (link, to_a, to_b) = link_and_numbers(left)?;
+            let (link, to_a, to_b) = only_link_and_two_numbers_left(left)?;
             Some(Happening::Lose(Conn(link), to_a, to_b))
         }
         Verb::Submit => None,
@@ -72,7 +73,7 @@ fn read_submit(alloc: Global, left: &mut Words<'_>) -> Result<Option<Happening>,
     ensures none { IfOk result (λ read. IfNone read ((h : Happening) → verb_of h ≡ Verb.Submit
         → TellsArguments h (words left.old) → ⊥)) }
 {
-    let Some((side, word)) = side_and_word(left) else {
+    let Some((side, word)) = only_side_and_word_left(left) else {
         return Ok(None);
     };
     match read_hex_word(alloc, word)? {

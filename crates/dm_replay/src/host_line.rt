@@ -28,7 +28,7 @@ pub fn read_host_line(side: Side, line: &[u8]) -> Option<HostLine<'_>>
 {
     let mut left = Words::new(line);
     take_peer_and_side(&mut left, side)?;
-    let (host, application) = host_and_number(&mut left)?;
+    let (host, application) = only_host_and_number_left(&mut left)?;
     if !is_name(host) {
         return None;
     }
@@ -51,7 +51,7 @@ fn take_peer_and_side(left: &mut Words<'_>, side: Side) -> Option<()>
 }
 
 /// The host and the number that the two words left tell; None where they are others.
-fn host_and_number<'a>(left: &mut Words<'a>) -> Option<(&'a [u8], u32)>
+fn only_host_and_number_left<'a>(left: &mut Words<'a>) -> Option<(&'a [u8], u32)>
     ensures told { IfSome result (λ r. (number : List ℕ) × (words left.old ≡ r.0.now ∷ number ∷ [])
         × TellsNumber r.1 number) }
     ensures none { IfNone result ((host number : List ℕ) (n : ℕ) → words left.old ≡ host ∷ number ∷ []

@@ -3,38 +3,38 @@
 ghost use Rattle.dm_replay.specs.OneScript.{OneScript, OneBadLine, NoScriptIsBad, NothingIsNotBad, SomeScript};
 ghost use Rattle.dm_replay.specs.OneReplay.{OneRead, SomeRead, OneReplay, SomeReplay};
 
-use dm_text::laws::{lines_are_joined, number_or_none};
+use dm_text::laws::{each_word_tells_number_or_none, lines_of_parts_are_lines_of_whole};
 
-/// A text is at most one script, or has one first bad line.
-pub fn one_script()
+/// A text is at most one script, or has at most one first bad line, never both; one that stands for nothing has none.
+pub fn no_text_is_two_scripts()
     ensures script { OneScript }
     ensures bad_line { OneBadLine }
     ensures not_both { NoScriptIsBad }
     ensures not_nothing { NothingIsNotBad }
 {
-    lines_are_joined();
+    lines_of_parts_are_lines_of_whole();
 }
 
 /// Each text stands for nothing, is a script, or has a first bad line.
-pub fn some_script()
+pub fn each_text_is_nothing_script_or_bad()
     ensures { SomeScript }
 {
-    lines_are_joined();
-    number_or_none();
+    lines_of_parts_are_lines_of_whole();
+    each_word_tells_number_or_none();
 }
 
 /// A text is read as one thing at most, and has at most one replay.
-pub fn one_replay()
+pub fn no_text_has_two_replays()
     ensures read { OneRead }
     ensures replay { OneReplay }
 {
-    one_script();
+    no_text_is_two_scripts();
 }
 
 /// Each text is read as something, and has a replay.
-pub fn some_replay()
+pub fn each_text_has_a_replay()
     ensures read { SomeRead }
     ensures replay { SomeReplay }
 {
-    some_script();
+    each_text_is_nothing_script_or_bad();
 }

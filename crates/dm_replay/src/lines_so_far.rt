@@ -8,7 +8,7 @@ ghost use Rattle.dm_replay.specs.LinesSoFar.{TellSoFar};
 
 use crate::happening_line::read_happening;
 use crate::host_line::{HostLine, read_host_line};
-use dm_text::{is_skipped, trim};
+use dm_text::{is_empty_or_comment, trim_spaces};
 use dm_world::{Happening, Side};
 use std::alloc::{AllocError, Global};
 
@@ -48,8 +48,8 @@ impl<'a> LinesSoFar<'a> {
             → TellSoFar lines self.old.hosts self.old.list.items
             → MayStandBehind (length lines) (trimmed line.now) → ⊥) }
     {
-        let line = trim(line);
-        if is_skipped(line) {
+        let line = trim_spaces(line);
+        if is_empty_or_comment(line) {
             return Ok(true);
         }
         match self.hosts {
@@ -67,12 +67,12 @@ impl<'a> LinesSoFar<'a> {
                 }
                 None => Ok(false),
             },
-            NamedPeers::Both(_, _) => self.take_happening(alloc, line),
+            NamedPeers::Both(_, _) => self.take_happening_line(alloc, line),
         }
     }
 
     /// Goes on with the line of a happening. False where it is none.
-    fn take_happening(&mut self, alloc: Global, line: &[u8]) -> Result<bool, AllocError>
+    fn take_happening_line(&mut self, alloc: Global, line: &[u8]) -> Result<bool, AllocError>
         ensures hosts { self.new.hosts ≡ self.old.hosts }
         ensures taken { IfOk result (λ taken. taken ≡ true → (h : Happening)
             × (self.new.list.items ≡ self.old.list.items ++ h ∷ []) × TellsHappening h line.now) }

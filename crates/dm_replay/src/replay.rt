@@ -1,14 +1,14 @@
-//! A script, replayed.
+//! A script, replayed, or the text of its fault.
 ghost use Rattle.std.specs.Prelude.{◌≡◌, ◌++◌, true, IfOk, OnOk, Err};
 ghost use Rattle.dm_peer.specs.Hosts.{is_same_host};
 ghost use Rattle.dm_replay.specs.declared.fault.ScriptFault.{ScriptFault};
 ghost use Rattle.dm_replay.specs.Replay.{replay_from, script_text, text_of, ReplaysText};
 
 use crate::fault::ScriptFault;
-use crate::replay_lines::{push_end_line, push_nolink_line, push_trace};
+use crate::replay_lines::{push_end_line, push_nolink_line, push_trace_line};
 use crate::script::{Script, read_script};
 use dm_dict::NoMemory;
-use dm_text::push_syntax_fault;
+use dm_text::push_syntax_fault_of_line;
 use dm_world::{Happening, NewFault, World, WorldFault};
 use std::alloc::Global;
 
@@ -66,7 +66,7 @@ fn replay_happenings(
     'script: while let [happening, more @ ..] = rest {
         count += 1;
         match world.apply(alloc, happening) {
-            Ok(effect) => push_trace(text, count, effect, world)?,
+            Ok(effect) => push_trace_line(text, count, effect, world)?,
             Err(WorldFault::NoLink) => {
                 push_nolink_line(text, count)?;
                 return Ok(false);
@@ -86,7 +86,7 @@ fn fault_text(alloc: Global, fault: ScriptFault) -> Result<(Vec<u8>, bool), NoMe
 {
     let mut text = Vec::new(alloc);
     match fault {
-        ScriptFault::Syntax(line) => push_syntax_fault(&mut text, line as u64)?,
+        ScriptFault::Syntax(line) => push_syntax_fault_of_line(&mut text, line as u64)?,
         ScriptFault::SameHost => text.extend_from_slice(b"fault SameHost\n")?,
         ScriptFault::NoMemory => return Err(NoMemory),
     }

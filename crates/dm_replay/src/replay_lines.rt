@@ -21,12 +21,12 @@ pub fn trace(
     ensures { IfOk result (λ line. line.items ≡ trace_line number effect world.now) }
 {
     let mut line = Vec::new(alloc);
-    push_trace(&mut line, number, effect, world)?;
+    push_trace_line(&mut line, number, effect, world)?;
     Ok(line)
 }
 
 /// Appends the line of happening `number`.
-pub fn push_trace(
+pub fn push_trace_line(
     text: &mut Vec<u8>,
     number: usize,
     effect: Effect,
@@ -35,10 +35,10 @@ pub fn push_trace(
     ensures { OnOk result (text.new.items ≡ text.old.items ++ trace_line number effect world.now) }
 {
     push_decimal(text, number as u64)?;
-    push_effect(text, effect)?;
-    push_peer(text, world.peer(Side::A))?;
+    push_effect_and_side_a(text, effect)?;
+    push_state_and_connections(text, world.peer(Side::A))?;
     text.extend_from_slice(b" B ")?;
-    push_peer(text, world.peer(Side::B))?;
+    push_state_and_connections(text, world.peer(Side::B))?;
     text.push(b'\n')?;
     Ok(())
 }
@@ -61,13 +61,13 @@ pub fn push_end_line(text: &mut Vec<u8>, world: &World) -> Result<(), AllocError
     text.extend_from_slice(b" quiet=")?;
     push_yes_or_no(text, world.quiet())?;
     text.extend_from_slice(b" open=")?;
-    push_link(text, world.open_link())?;
+    push_link_or_dash(text, world.open_link())?;
     text.push(b'\n')?;
     Ok(())
 }
 
 /// Appends what became of a happening, and the name of side A.
-fn push_effect(text: &mut Vec<u8>, effect: Effect) -> Result<(), AllocError>
+fn push_effect_and_side_a(text: &mut Vec<u8>, effect: Effect) -> Result<(), AllocError>
     ensures { OnOk result (text.new.items ≡ text.old.items ++ effect_text effect) }
 {
     match effect {
@@ -78,12 +78,12 @@ fn push_effect(text: &mut Vec<u8>, effect: Effect) -> Result<(), AllocError>
 }
 
 /// Appends the peer's state, and the connections that it holds.
-fn push_peer(text: &mut Vec<u8>, peer: &Peer) -> Result<(), AllocError>
+fn push_state_and_connections(text: &mut Vec<u8>, peer: &Peer) -> Result<(), AllocError>
     ensures { OnOk result (text.new.items ≡ text.old.items ++ node_text peer.now.standing.core) }
 {
     text.extend_from_slice(state_name(peer.state()))?;
-    push_held(text, b" i", peer.initiated())?;
-    push_held(text, b" r", peer.accepted())?;
+    push_held_connection(text, b" i", peer.initiated())?;
+    push_held_connection(text, b" r", peer.accepted())?;
     Ok(())
 }
 
@@ -95,7 +95,11 @@ fn state_name(state: State) -> &'static [u8]
 }
 
 /// Appends the connection behind its letter; nothing where none is held.
-fn push_held(text: &mut Vec<u8>, letter: &[u8], held: Option<Conn>) -> Result<(), AllocError>
+fn push_held_connection(
+    text: &mut Vec<u8>,
+    letter: &[u8],
+    held: Option<Conn>,
+) -> Result<(), AllocError>
     ensures { OnOk result (text.new.items ≡ text.old.items ++ held_text letter.now held) }
 {
     if let Some(conn) = held {
@@ -118,7 +122,7 @@ fn push_yes_or_no(text: &mut Vec<u8>, answer: bool) -> Result<(), AllocError>
 }
 
 /// Appends the number of the link, or `-` where there is none.
-fn push_link(text: &mut Vec<u8>, link: Option<Conn>) -> Result<(), AllocError>
+fn push_link_or_dash(text: &mut Vec<u8>, link: Option<Conn>) -> Result<(), AllocError>
     ensures { OnOk result (text.new.items ≡ text.old.items ++ link_text link) }
 {
     match link {

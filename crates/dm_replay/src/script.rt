@@ -7,11 +7,11 @@ ghost use Rattle.dm_replay.specs.declared.fault.ScriptFault.{ScriptFault};
 ghost use Rattle.dm_replay.specs.declared.script.Script.{Script};
 ghost use Rattle.dm_replay.specs.ReadScript.{IsConfigOf, IsReading};
 
-use crate::configs::{config, config_with_dictionary_of};
+use crate::configs::{config_of_hosts, config_with_dictionary_of};
 use crate::fault::ScriptFault;
 use crate::happening_list::HappeningList;
-use crate::laws::one_replay;
-use crate::script_lines::{ScriptLines, read_lines};
+use crate::laws::no_text_has_two_replays;
+use crate::script_lines::{ScriptLines, read_script_lines};
 use dm_peer::{Config, is_same_host};
 use std::alloc::{AllocError, Global};
 
@@ -37,27 +37,27 @@ pub fn read_script(alloc: Global, text: &[u8]) -> Result<Option<Script>, ScriptF
     ensures only { (read : Result (Option Script) ScriptFault) → IsReading text.now read
         → (result ≡ read) ⊎ (result ≡ Err ScriptFault.NoMemory) }
 {
-    one_replay();
-    read_whole_script(alloc, text)
+    no_text_has_two_replays();
+    read_script_by_lines(alloc, text)
 }
 
-/// What the text is read as.
-fn read_whole_script(alloc: Global, text: &[u8]) -> Result<Option<Script>, ScriptFault>
+/// What the text is read as: its lines are read, and then the script is made of them.
+fn read_script_by_lines(alloc: Global, text: &[u8]) -> Result<Option<Script>, ScriptFault>
     ensures { (result ≡ Err ScriptFault.NoMemory) ⊎ IsReading text.now result }
 {
-    match read_lines(alloc, text)? {
+    match read_script_lines(alloc, text)? {
         Some(lines) => {
             if is_same_host(lines.left.host, lines.right.host) {
                 return Err(ScriptFault::SameHost);
             }
-            Ok(Some(script_of(alloc, lines)?))
+            Ok(Some(script_of_lines(alloc, lines)?))
         }
         None => Ok(None),
     }
 }
 
 /// The script of these lines.
-fn script_of(alloc: Global, lines: ScriptLines<'_>) -> Result<Script, AllocError>
+fn script_of_lines(alloc: Global, lines: ScriptLines<'_>) -> Result<Script, AllocError>
     requires left { is_name lines.left.host.now ≡ true }
     requires right { is_name lines.right.host.now ≡ true }
     requires differ { lower lines.left.host.now ≡ lower lines.right.host.now → ⊥ }
@@ -65,7 +65,7 @@ fn script_of(alloc: Global, lines: ScriptLines<'_>) -> Result<Script, AllocError
     ensures right { IfOk result (λ s. IsConfigOf (line_host lines.entry.right) (line_host lines.entry.left) s.right) }
     ensures list { IfOk result (λ s. s.list ≡ lines.entry.list.items) }
 {
-    let left = config(alloc, lines.left, lines.right)?;
+    let left = config_of_hosts(alloc, lines.left, lines.right)?;
     let right = config_with_dictionary_of(alloc, &left, lines.right, lines.left)?;
     Ok(Script {
         left,

@@ -9,7 +9,7 @@ use crate::fault::ScriptFault;
 use crate::host_line::HostLine;
 use crate::lines_so_far::{LinesSoFar, NamedPeers};
 use dm_text::Lines;
-use dm_text::laws::lines_are_joined;
+use dm_text::laws::lines_of_parts_are_lines_of_whole;
 use dm_world::Happening;
 use std::alloc::Global;
 
@@ -28,13 +28,13 @@ pub struct ScriptLines<'a> {
 ///
 /// The first line that may not stand where it does is answered as `Syntax` with its number, from 1. A text that ends
 /// behind the line of its first peer has that fault at its last line.
-pub fn read_lines(alloc: Global, text: &[u8]) -> Result<Option<ScriptLines<'_>>, ScriptFault>
+pub fn read_script_lines(alloc: Global, text: &[u8]) -> Result<Option<ScriptLines<'_>>, ScriptFault>
     ensures none { IfOk result (λ read. IfNone read (content_lines text.now ≡ [])) }
     ensures told { IfOk result (λ read. IfSome read (λ s.
         TellsScript (line_host s.left) (line_host s.right) s.list.items text.now)) }
     ensures fault { IfErr result (λ f. (f ≡ NoMemory) ⊎ ((n : ℕ) × (f ≡ Syntax n) × IsFirstBad text.now n)) }
 {
-    lines_are_joined();
+    lines_of_parts_are_lines_of_whole();
     let mut so_far = LinesSoFar::new(alloc);
     let mut count = 0;
     for line in Lines::new(text) {

@@ -14,7 +14,7 @@ use std::marker::Model;
 
 /// The CER or CEA that the octets spell, as what it says of its sender; None where they spell neither. It never answers
 /// want of memory.
-fn exchange_in(octets: &[u8]) -> Option<SenderRef<'_>>
+fn exchange_sender(octets: &[u8]) -> Option<SenderRef<'_>>
     ensures { MatchOption result (exchange_in octets.now ≡ None)
         (λ r. (m : Message) × (exchange_in octets.now ≡ Some m) × HasAvps r m.avps) }
 {
@@ -25,10 +25,10 @@ fn exchange_in(octets: &[u8]) -> Option<SenderRef<'_>>
 }
 
 /// Whether the octets spell a CER or CEA and are told in a state that isn't open. It never answers want of memory.
-pub fn is_exchange(state: State, octets: &[u8]) -> bool
+pub fn is_exchange_before_open(state: State, octets: &[u8]) -> bool
     ensures { result ≡ is_exchange_to state octets.now }
 {
-    !state.is_open() && exchange_in(octets).is_some()
+    !state.is_open() && exchange_sender(octets).is_some()
 }
 
 /// What the other side said of itself: the CER or CEA by which a peer was opened, of the last time that it was. It
@@ -70,7 +70,7 @@ impl Acquaintance {
         ensures { MatchOption result (exchange_in self.now.octets ≡ None)
             (λ r. (m : Message) × (exchange_in self.now.octets ≡ Some m) × HasAvps r m.avps) }
     {
-        exchange_in(self.octets.as_slice())
+        exchange_sender(self.octets.as_slice())
     }
 
     /// The Origin-State-Id that it said (8.16), where it did. It never answers want of memory.
@@ -102,7 +102,7 @@ impl Acquaintance {
     }
 
     /// Notes that the other side was met by this CER or CEA. It never answers want of memory.
-    fn meet(&mut self, exchange: Octets)
+    fn meet_by_exchange(&mut self, exchange: Octets)
         ensures { self.new ≡ met_by exchange self.old }
     {
         self.before = self.state();
@@ -111,52 +111,52 @@ impl Acquaintance {
     }
 
     /// Notes that this CER waits for its CEA. It never answers want of memory.
-    fn set_waiting(&mut self, exchange: Octets)
+    fn set_waiting_cer(&mut self, exchange: Octets)
         ensures { self.new ≡ with_waiting exchange self.old }
     {
         self.waiting = Some(exchange);
     }
 
     /// Notes that the other side was met by the CER that waited, if one did. It never answers want of memory.
-    fn meet_waiting(&mut self)
+    fn meet_by_waiting_cer(&mut self)
         ensures { self.new ≡ met_waiting self.old.waiting self.old }
     {
         if let Some(exchange) = self.waiting.take() {
-            self.meet(exchange);
+            self.meet_by_exchange(exchange);
         }
     }
 
     /// Notes by what a peer was opened that is open now, and wasn't before this CER or CEA of the connection: by that
     /// where it holds the connection, and else by the CER that waited.
-    fn meet_exchange_or_waiting(&mut self, exchange: Octets, conn: Conn, peer: &Peer)
+    fn meet_by_exchange_or_waiting_cer(&mut self, exchange: Octets, conn: Conn, peer: &Peer)
         ensures { self.new ≡ known_opened conn peer.now exchange self.old }
     {
         if peer.holds(conn) {
-            self.meet(exchange);
+            self.meet_by_exchange(exchange);
         } else {
-            self.meet_waiting();
+            self.meet_by_waiting_cer();
         }
     }
 
     /// What is known behind a CER or CEA of the connection, which was told in this state, that isn't open.
-    fn meet_or_set_waiting(&mut self, exchange: Octets, conn: Conn, before: State, peer: &Peer)
+    fn meet_or_set_waiting_cer(&mut self, exchange: Octets, conn: Conn, before: State, peer: &Peer)
         ensures { self.new ≡ known_by conn before peer.now exchange self.old }
     {
         if peer.is_open() {
-            self.meet_exchange_or_waiting(exchange, conn, peer);
+            self.meet_by_exchange_or_waiting_cer(exchange, conn, peer);
         } else if !before.holds_cer() && peer.state().holds_cer() {
-            self.set_waiting(exchange);
+            self.set_waiting_cer(exchange);
         }
     }
 
     /// What is known behind what was told in this state to the peer and is no CER or CEA: where the peer wasn't open
     /// and is, as an election is over (RFC 6733, 5.6.4), it was opened by the CER that waited. It never answers want of
     /// memory.
-    pub fn meet_after(&mut self, before: State, peer: &Peer)
+    pub fn meet_by_event(&mut self, before: State, peer: &Peer)
         ensures { self.new ≡ known_after before peer.now self.old }
     {
         if !before.is_open() && peer.is_open() {
-            self.meet_waiting();
+            self.meet_by_waiting_cer();
         }
     }
 
@@ -164,13 +164,13 @@ impl Acquaintance {
     /// state that isn't open `exchange` is a copy, else no octets. Where the peer wasn't open and is, it was opened by
     /// that message, if it holds the connection, and else by the CER that waited, as where an election is over (RFC
     /// 6733, 5.6.4); and where a CER waits and none did before, it is this one. It never answers want of memory.
-    pub fn meet_behind(&mut self, exchange: Octets, conn: Conn, before: State, peer: &Peer)
+    pub fn meet_by_message(&mut self, exchange: Octets, conn: Conn, before: State, peer: &Peer)
         ensures { self.new ≡ known_if_any exchange conn before peer.now self.old }
     {
         if exchange.is_empty() {
-            self.meet_after(before, peer);
+            self.meet_by_event(before, peer);
         } else {
-            self.meet_or_set_waiting(exchange, conn, before, peer);
+            self.meet_or_set_waiting_cer(exchange, conn, before, peer);
         }
     }
 }

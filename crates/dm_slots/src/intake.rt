@@ -104,7 +104,7 @@ impl Intake {
 
     /// How many octets the whole message has with which the piece begins, where nothing is kept before it; None where
     /// something is, behind a fault, or where it begins with none. It never answers want of memory.
-    pub(crate) fn whole_in(&self, piece: &[u8]) -> Option<usize>
+    pub(crate) fn whole_message_len(&self, piece: &[u8]) -> Option<usize>
         ensures within { IfSome result (λ size. size ≤ length piece.now) }
         ensures whole { IfSome result (λ size.
             IsWholeIn self.now piece.now (take size piece.now) (drop size piece.now)) }
@@ -120,7 +120,7 @@ impl Intake {
     }
 
     /// Lets the front message go. It never answers want of memory.
-    pub(crate) fn skip(&mut self)
+    pub(crate) fn skip_front_message(&mut self)
         ensures { (message rest : List ℕ) → IsFirst self.old message rest
             → self.new ≡ record self.old { octets = rest } }
     {
@@ -128,7 +128,7 @@ impl Intake {
     }
 
     /// A fault was told: what came, and what comes, is thrown away. It never answers want of memory.
-    pub(crate) fn break_off(&mut self, alloc: Global)
+    pub(crate) fn discard_behind_fault(&mut self, alloc: Global)
         ensures { self.new ≡ broken_intake self.old }
     {
         let max = self.framer.max();
@@ -137,14 +137,14 @@ impl Intake {
     }
 
     /// The greatest Message Length. It never answers want of memory.
-    pub(crate) fn max(&self) -> u32
+    pub(crate) fn max_message_len(&self) -> u32
         ensures { result ≡ self.now.max }
     {
         self.framer.max()
     }
 
     /// Sets the greatest Message Length. It never answers want of memory.
-    pub(crate) fn set_max(&mut self, max: u32)
+    pub(crate) fn set_max_message_len(&mut self, max: u32)
         ensures { self.new ≡ with_max max self.old }
     {
         self.framer.set_max(max);

@@ -3,12 +3,12 @@ ghost use Rattle.dm_slots.specs.Staying.{OpeningKeeps, ChangingKeeps, TellingKee
 ghost use Rattle.dm_slots.specs.Staying.{ClosingKeeps, ShuttingKeeps, TakingBackUndoes};
 ghost use Rattle.dm_slots.specs.Hearing.{WholeIsTaken};
 
-use dm_framer::laws::one_front;
+use dm_framer::laws::at_most_one_frame_is_in_front;
 
 /// A connection that is there stays there, whatever is done with what came, but where it is closed or shut. The law
 /// stands for users: who keeps [`Slots`](crate::Slots) beside peers of his own knows by it that what these hold is
 /// there.
-pub fn what_is_there_stays()
+pub fn connections_stay_until_closed()
     ensures opened { OpeningKeeps }
     ensures changed { ChangingKeeps }
     ensures told { TellingKeeps }
@@ -18,13 +18,13 @@ pub fn what_is_there_stays()
 {}
 
 /// What was kept of a piece and is taken away again leaves nothing: the connections are as they were.
-pub fn taking_back_undoes()
+pub fn taking_back_undoes_feeding()
     ensures { TakingBackUndoes }
 {}
 
 /// Where nothing is kept, what is taken of a piece that begins with a whole message is that message.
-pub fn whole_is_taken()
+pub fn whole_messages_are_taken_whole()
     ensures { WholeIsTaken }
 {
-    one_front();
+    at_most_one_frame_is_in_front();
 }

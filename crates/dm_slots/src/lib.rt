@@ -6,7 +6,7 @@ mod intake;
 pub mod laws;
 mod slots;
 
-pub use acquaintance::{Acquaintance, is_exchange};
+pub use acquaintance::{Acquaintance, is_exchange_before_open};
 pub use dm_peer::{Action, Conn};
 pub use intake::Front;
 pub use slots::Slots;

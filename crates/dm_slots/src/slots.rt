@@ -89,7 +89,7 @@ impl Slots {
     }
 
     /// The connection, if it is one and there, is of this owner. It never answers want of memory.
-    pub fn own(&mut self, conn: Option<Conn>, owner: usize)
+    pub fn set_owner(&mut self, conn: Option<Conn>, owner: usize)
         ensures intakes { intakes_of self.new ≡ intakes_of self.old }
         ensures owners { ((c : Conn) → conn ≡ Some c → is_there c.0 (intakes_of self.old) ≡ true)
             → owners_of self.new ≡ owned_by conn owner (owners_of self.old) }
@@ -124,12 +124,12 @@ impl Slots {
     /// How many octets the whole message has with which the piece begins, where the connection is there and nothing is
     /// kept of it; None where the connection isn't there or something is kept, behind a fault, or where the piece
     /// begins with none. It never answers want of memory.
-    pub fn whole_in(&self, conn: Conn, piece: &[u8]) -> Option<usize>
+    pub fn whole_message_len(&self, conn: Conn, piece: &[u8]) -> Option<usize>
         ensures whole { IfSome result (λ size. IsWholeAt (intakes_of self.now conn.0) piece.now size) }
         ensures none { IfNone result (IfSome (intakes_of self.now conn.0) (λ i. IsNotWhole i piece.now)) }
     {
         match self.intake(conn) {
-            Some(intake) => intake.whole_in(piece),
+            Some(intake) => intake.whole_message_len(piece),
             None => None,
         }
     }
@@ -215,40 +215,40 @@ impl Slots {
     }
 
     /// Lets the front message of the connection go. It never answers want of memory.
-    pub fn skip(&mut self, conn: Conn)
+    pub fn skip_front_message(&mut self, conn: Conn)
         ensures skipped { (intake : OneIntake) (message rest : List ℕ) → intakes_of self.old conn.0 ≡ Some intake
             → IsFirst intake message rest
             → intakes_of self.new ≡ with_intake conn.0 (Some (record intake { octets = rest })) (intakes_of self.old) }
         ensures owners { owners_of self.new ≡ owners_of self.old }
     {
         if let Some(slot) = self.map.get_mut(&conn.0) {
-            slot.intake.skip();
+            slot.intake.skip_front_message();
         }
     }
 
     /// A fault of the connection was told. It never answers want of memory.
-    pub fn break_off(&mut self, alloc: Global, conn: Conn)
+    pub fn discard_behind_fault(&mut self, alloc: Global, conn: Conn)
         ensures broken { (intake : OneIntake) → intakes_of self.old conn.0 ≡ Some intake
             → intakes_of self.new ≡ with_intake conn.0 (Some (broken_intake intake)) (intakes_of self.old) }
         ensures owners { owners_of self.new ≡ owners_of self.old }
     {
         if let Some(slot) = self.map.get_mut(&conn.0) {
-            slot.intake.break_off(alloc);
+            slot.intake.discard_behind_fault(alloc);
         }
     }
 
     /// True only where the connection is there and takes messages of at most `max` octets already. Where it stands is
     /// noted, so as to be looked at first.
-    fn has_max(&mut self, conn: Conn, max: u32) -> bool
+    fn has_max_message_len(&mut self, conn: Conn, max: u32) -> bool
         ensures raised { result ≡ true → (i : OneIntake) × (intakes_of self.old conn.0 ≡ Some i) × (i.max ≡ max) }
         ensures same { intakes_of self.new ≡ intakes_of self.old }
         ensures owners { owners_of self.new ≡ owners_of self.old }
     {
         match self.map.get_index(self.last) {
-            Some((number, slot)) if *number == conn.0 => slot.intake.max() == max,
+            Some((number, slot)) if *number == conn.0 => slot.intake.max_message_len() == max,
             _ => match self.map.get_full(&conn.0) {
                 Some((index, _, slot)) => {
-                    let is_raised = slot.intake.max() == max;
+                    let is_raised = slot.intake.max_message_len() == max;
                     self.last = index;
                     is_raised
                 }
@@ -258,43 +258,49 @@ impl Slots {
     }
 
     /// The connection, where it is there, takes messages of at most `max` octets.
-    fn set_max(&mut self, conn: Conn, max: u32)
+    fn set_max_message_len(&mut self, conn: Conn, max: u32)
         ensures raised { intakes_of self.new ≡ raised_at max (Some conn) (intakes_of self.old) }
         ensures owners { owners_of self.new ≡ owners_of self.old }
     {
         if let Some(slot) = self.map.get_mut(&conn.0) {
-            slot.intake.set_max(max);
+            slot.intake.set_max_message_len(max);
         }
     }
 
     /// The connection, if it is one and there, takes messages of at most `max` octets. It never answers want of memory.
-    pub fn raise(&mut self, conn: Option<Conn>, max: u32)
+    pub fn set_max_message_len_if_there(&mut self, conn: Option<Conn>, max: u32)
         ensures raised { intakes_of self.new ≡ raised_at max conn (intakes_of self.old) }
         ensures owners { owners_of self.new ≡ owners_of self.old }
     {
         if let Some(conn) = conn {
-            if !self.has_max(conn, max) {
-                self.set_max(conn, max);
+            if !self.has_max_message_len(conn, max) {
+                self.set_max_message_len(conn, max);
             }
         }
     }
 
     /// Where the peer is open, both connections that it may hold take messages of at most `max` octets. It never
     /// answers want of memory.
-    pub fn raise_open(&mut self, is_open: bool, own: Option<Conn>, other: Option<Conn>, max: u32)
+    pub fn set_max_message_len_if_open(
+        &mut self,
+        is_open: bool,
+        own: Option<Conn>,
+        other: Option<Conn>,
+        max: u32,
+    )
         ensures raised { intakes_of self.new
             ≡ cond is_open (raised_at max other (raised_at max own (intakes_of self.old))) (intakes_of self.old) }
         ensures owners { owners_of self.new ≡ owners_of self.old }
     {
         if is_open {
-            self.raise(own, max);
-            self.raise(other, max);
+            self.set_max_message_len_if_there(own, max);
+            self.set_max_message_len_if_there(other, max);
         }
     }
 
     #[tactic(auto, using(crate::proofs::Steps::left_close))]
     /// What the action closes is no more there. It never answers want of memory.
-    fn shut_on_close(&mut self, action: &Action)
+    fn shut_connection_closed_by(&mut self, action: &Action)
         ensures left { intakes_of self.new ≡ left_by (action.now ∷ []) (intakes_of self.old) }
         ensures owners { owners_of self.new ≡ closed_by (action.now ∷ []) (owners_of self.old) }
     {
@@ -304,13 +310,13 @@ impl Slots {
     }
 
     /// What the actions close is no more there. It never answers want of memory.
-    pub fn leave(&mut self, actions: &[Action])
+    pub fn shut_connections_closed_by(&mut self, actions: &[Action])
         ensures left { intakes_of self.new ≡ left_by actions.now (intakes_of self.old) }
         ensures owners { owners_of self.new ≡ closed_by actions.now (owners_of self.old) }
     {
         if let [action, rest @ ..] = actions {
-            self.shut_on_close(action);
-            self.leave(rest);
+            self.shut_connection_closed_by(action);
+            self.shut_connections_closed_by(rest);
         }
     }
 }

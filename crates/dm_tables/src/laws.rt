@@ -2,6 +2,6 @@
 ghost use Rattle.dm_tables.specs.OneOfEach.{OneOfEach};
 
 /// Of what one name or code asks for, sound definitions have one at most (RFC 6733, 3.2, 3 and 4.1).
-pub fn one_of_each()
+pub fn each_name_and_code_defines_one_at_most()
     ensures { OneOfEach }
 {}

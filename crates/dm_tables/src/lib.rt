@@ -19,5 +19,5 @@ pub use dm_value::{AvpType, NoMemory};
 pub use name_guesses::NameGuesses;
 pub use rule::{Entry, Rule};
 pub use tables::Tables;
-pub use values::{EnumValue, Values, is_noted, note_number};
+pub use values::{EnumValue, Values, is_number_noted, note_number};
 pub use vendors::Vendors;

@@ -70,35 +70,35 @@ impl NameGuesses {
         ensures { IfOk result (λ guesses. AreGuessed avps.now guesses.places.items) }
     {
         let mut guesses = NameGuesses::new(alloc, avps.len())?;
-        guesses.note_all(avps);
+        guesses.note_names_of_all(avps);
         Ok(guesses)
     }
 
     /// Notes the names of the AVPs, where none is noted.
-    pub fn note_all(&mut self, avps: &[AvpDef])
+    pub fn note_names_of_all(&mut self, avps: &[AvpDef])
         requires { AreGuessed [] self.old.places.items }
         ensures { AreGuessed avps.now self.new.places.items }
     {
         for (place, avp) in avps.iter().enumerate() {
-            self.note(avp.name.as_slice(), place);
+            self.note_name(avp.name.as_slice(), place);
         }
     }
 
     /// The slot of a name.
-    fn slot(&self, name: &[u8]) -> usize
+    fn slot_of_name(&self, name: &[u8]) -> usize
         ensures { result ≡ slot_of (length self.now.places.items) name.now }
     {
         hash_of_name(name) as usize & self.places.len().saturating_sub(1)
     }
 
     /// Notes the name of the AVP at the place, behind the others.
-    pub fn note(&mut self, name: &[u8], place: usize)
+    pub fn note_name(&mut self, name: &[u8], place: usize)
         ensures noted { self.new.places.items ≡ with_guess self.old.places.items name.now place }
         // The guesses of some AVPs become those of one more.
         ensures guessed { (avps : List AvpDef) (avp : AvpDef) → avp.name ≡ name.now
             → AreGuessed avps self.old.places.items → AreGuessed (avps ++ avp ∷ []) self.new.places.items }
     {
-        let slot = self.slot(name);
+        let slot = self.slot_of_name(name);
         if slot < self.places.len() {
             self.places[slot] = guess_after_noting(self.places[slot], place);
         }
@@ -106,9 +106,12 @@ impl NameGuesses {
 
     /// The place that is guessed for a name, to be looked at before it is taken; `NO_GUESS` where no AVP has a name of
     /// its slot.
-    pub(crate) fn guess(&self, name: &[u8]) -> u16
+    pub(crate) fn guess_place(&self, name: &[u8]) -> u16
         ensures { result ≡ slice_index self.now.places.items (slot_of (length self.now.places.items) name.now) }
     {
-        self.places.get(self.slot(name)).copied().unwrap_or(0)
+        self.places
+            .get(self.slot_of_name(name))
+            .copied()
+            .unwrap_or(0)
     }
 }

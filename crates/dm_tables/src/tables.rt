@@ -31,7 +31,7 @@ pub struct Tables {
 }
 
 /// Puts the place of a definition under its name.
-pub fn note_name(
+pub fn note_place_of_name(
     alloc: Global,
     names: &mut IndexMap<Vec<u8>, usize>,
     name: &[u8],
@@ -109,7 +109,7 @@ impl Tables {
     {
         let place = self.avps.as_slice().len();
         let code = (avp.code, avp.vendor);
-        let noted = note_name(alloc, &mut self.names, avp.name.as_slice(), place);
+        let noted = note_place_of_name(alloc, &mut self.names, avp.name.as_slice(), place);
         self.guesses[(avp.code % 512) as usize] = u16::try_from(place).unwrap_or(u16::MAX);
         self.avps.push(avp)?;
         self.codes.insert(code, place)?;
@@ -125,14 +125,14 @@ impl Tables {
     {
         let place = self.commands.as_slice().len();
         let head = (command.code, command.request, command.err);
-        let noted = note_name(alloc, &mut self.titles, command.name.as_slice(), place);
+        let noted = note_place_of_name(alloc, &mut self.titles, command.name.as_slice(), place);
         self.commands.push(command)?;
         self.heads.insert(head, place)?;
         noted
     }
 
     /// Adds copies of the vendors behind the others.
-    fn add_vendors(&mut self, alloc: Global, vendors: &[VendorDef]) -> Result<(), NoMemory>
+    fn add_vendor_copies(&mut self, alloc: Global, vendors: &[VendorDef]) -> Result<(), NoMemory>
         requires tables { IsTables self.old }
         requires sound { each_after is_sound_vendor self.old.vendors.items.items vendors.now ≡ true }
         ensures vendors { OnOk result (self.new.vendors.items.items ≡ self.old.vendors.items.items ++ vendors.now) }
@@ -147,7 +147,7 @@ impl Tables {
     }
 
     /// Adds copies of the AVPs behind the others.
-    fn add_avps(&mut self, alloc: Global, avps: &[AvpDef]) -> Result<(), NoMemory>
+    fn add_avp_copies(&mut self, alloc: Global, avps: &[AvpDef]) -> Result<(), NoMemory>
         requires tables { IsTables self.old }
         requires sound { each_after is_sound_avp self.old.avps.items avps.now ≡ true }
         ensures vendors { OnOk result (self.new.vendors.items.items ≡ self.old.vendors.items.items) }
@@ -162,7 +162,7 @@ impl Tables {
     }
 
     /// Adds copies of the commands behind the others.
-    fn add_commands(&mut self, alloc: Global, commands: &[CommandDef]) -> Result<(), NoMemory>
+    fn add_command_copies(&mut self, alloc: Global, commands: &[CommandDef]) -> Result<(), NoMemory>
         requires tables { IsTables self.old }
         requires sound { each_after is_sound_command self.old.commands.items commands.now ≡ true }
         ensures vendors { OnOk result (self.new.vendors.items.items ≡ self.old.vendors.items.items) }
@@ -178,38 +178,38 @@ impl Tables {
 
     /// Adds copies of all definitions of the other tables, where these have none. After want of memory the tables are
     /// of no use.
-    pub fn add_all(&mut self, alloc: Global, other: &Tables) -> Result<(), NoMemory>
+    pub fn add_all_copies(&mut self, alloc: Global, other: &Tables) -> Result<(), NoMemory>
         requires tables { IsTables self.old }
         requires empty { defined self.old ≡ nothing_defined }
         requires other { IsTables other.now }
         ensures copy { OnOk result (defined self.new ≡ defined other.now) }
         ensures tables { OnOk result (IsTables self.new) }
     {
-        self.add_vendors(alloc, other.vendors.items.as_slice())?;
-        self.add_avps(alloc, other.avps.as_slice())?;
-        self.add_commands(alloc, other.commands.as_slice())
+        self.add_vendor_copies(alloc, other.vendors.items.as_slice())?;
+        self.add_avp_copies(alloc, other.avps.as_slice())?;
+        self.add_command_copies(alloc, other.commands.as_slice())
     }
 
     /// The place of the AVP of a name.
-    pub fn place_by_name(&self, name: &[u8]) -> Option<usize>
+    pub fn avp_place_by_name(&self, name: &[u8]) -> Option<usize>
         requires { IsIndexed self.now }
         ensures { result ≡ position_from (is_named name.now) 0 self.now.avps.items }
     {
         self.names.get(name).copied()
     }
 
-    /// The place of the AVP of a name, as `place_by_name` tells it.
+    /// The place of the AVP of a name, as `avp_place_by_name` tells it.
     // (A function of its own in the machine's code too: it is seldom called.)
     #[inline(never)]
-    fn place_by_name_outlined(&self, name: &[u8]) -> Option<usize>
+    fn avp_place_by_name_outlined(&self, name: &[u8]) -> Option<usize>
         requires { IsIndexed self.now }
         ensures { result ≡ position_from (is_named name.now) 0 self.now.avps.items }
     {
-        self.place_by_name(name)
+        self.avp_place_by_name(name)
     }
 
     /// The place of the AVP of a name, where it stands as guessed. None doesn't tell that there is no such AVP.
-    fn guessed_place_by_name(&self, guess: u16, name: &[u8]) -> Option<usize>
+    fn guessed_avp_place_by_name(&self, guess: u16, name: &[u8]) -> Option<usize>
         requires { IsTables self.now }
         ensures { IfSome result (λ place.
             position_from (is_named name.now) 0 self.now.avps.items ≡ Some place) }
@@ -223,25 +223,25 @@ impl Tables {
         }
     }
 
-    /// The place of the AVP of a name, by guesses that are these AVPs'. It is that of `place_by_name`, and mostly known
-    /// without the index.
-    pub fn place_by_guess(&self, guesses: &NameGuesses, name: &[u8]) -> Option<usize>
+    /// The place of the AVP of a name, by guesses that are these AVPs'. It is that of `avp_place_by_name`, and mostly
+    /// known without the index.
+    pub fn avp_place_by_guess(&self, guesses: &NameGuesses, name: &[u8]) -> Option<usize>
         requires tables { IsTables self.now }
         requires guesses { AreGuessed self.now.avps.items guesses.now.places.items }
         ensures { result ≡ position_from (is_named name.now) 0 self.now.avps.items }
     {
-        let guess = guesses.guess(name);
+        let guess = guesses.guess_place(name);
         if guess == NO_GUESS {
             return None;
         }
-        match self.guessed_place_by_name(guess, name) {
+        match self.guessed_avp_place_by_name(guess, name) {
             Some(place) => Some(place),
-            None => self.place_by_name_outlined(name),
+            None => self.avp_place_by_name_outlined(name),
         }
     }
 
     /// The place of the AVP of a code and vendor, by their index.
-    fn indexed_place_by_code(&self, code: u32, vendor: Option<u32>) -> Option<usize>
+    fn indexed_avp_place_by_code(&self, code: u32, vendor: Option<u32>) -> Option<usize>
         requires { IsIndexed self.now }
         ensures { result ≡ position_from (is_coded code vendor) 0 self.now.avps.items }
     {
@@ -250,19 +250,24 @@ impl Tables {
 
     /// The place of the AVP of a code and vendor, where it stands as guessed. None doesn't tell that there is no such
     /// AVP.
-    fn guessed_place_by_code(&self, code: u32, vendor: Option<u32>) -> Option<usize>
+    fn guessed_avp_place_by_code(&self, code: u32, vendor: Option<u32>) -> Option<usize>
         requires { IsTables self.now }
         ensures value { result ≡ guessed self.now code vendor }
         ensures found { IfSome result (λ place.
             position_from (is_coded code vendor) 0 self.now.avps.items ≡ Some place) }
     {
         let place = usize::from(self.guesses[(code % 512) as usize]);
-        self.place_if_coded(place, code, vendor)
+        self.avp_place_if_code_matches(place, code, vendor)
     }
 
     /// The place, where the AVP that stands there has the code and vendor; else None.
     #[inline(always)]
-    pub fn place_if_coded(&self, place: usize, code: u32, vendor: Option<u32>) -> Option<usize>
+    pub fn avp_place_if_code_matches(
+        &self,
+        place: usize,
+        code: u32,
+        vendor: Option<u32>,
+    ) -> Option<usize>
         requires { IsTables self.now }
         ensures value { result ≡ guess_at code vendor place (slice_get self.now.avps.items place) }
         // It is where they are found.
@@ -282,13 +287,13 @@ impl Tables {
     }
 
     /// The place of the AVP of a code and vendor.
-    pub fn place_by_code(&self, code: u32, vendor: Option<u32>) -> Option<usize>
+    pub fn avp_place_by_code(&self, code: u32, vendor: Option<u32>) -> Option<usize>
         requires { IsTables self.now }
         ensures { result ≡ position_from (is_coded code vendor) 0 self.now.avps.items }
     {
-        match self.guessed_place_by_code(code, vendor) {
+        match self.guessed_avp_place_by_code(code, vendor) {
             Some(place) => Some(place),
-            None => self.indexed_place_by_code(code, vendor),
+            None => self.indexed_avp_place_by_code(code, vendor),
         }
     }
 
@@ -305,7 +310,7 @@ impl Tables {
         requires { IsIndexed self.now }
         ensures { option_copied result ≡ find (is_named name.now) self.now.avps.items }
     {
-        member_at(self.avps.as_slice(), self.place_by_name(name))
+        member_at(self.avps.as_slice(), self.avp_place_by_name(name))
     }
 
     /// The AVP of a code and vendor.
@@ -313,7 +318,7 @@ impl Tables {
         requires { IsTables self.now }
         ensures { option_copied result ≡ find (is_coded code vendor) self.now.avps.items }
     {
-        member_at(self.avps.as_slice(), self.place_by_code(code, vendor))
+        member_at(self.avps.as_slice(), self.avp_place_by_code(code, vendor))
     }
 
     /// The command of a name.
@@ -326,7 +331,7 @@ impl Tables {
     }
 
     /// The command of a code with REQ and ERR.
-    pub fn command_by_head(&self, code: u32, request: bool, err: bool) -> Option<&CommandDef>
+    pub fn command_by_code(&self, code: u32, request: bool, err: bool) -> Option<&CommandDef>
         requires { IsIndexed self.now }
         ensures { option_copied result ≡ find (is_headed code request err) self.now.commands.items }
     {
@@ -337,7 +342,7 @@ impl Tables {
     }
 
     /// Whether there is an AVP of the name.
-    pub fn has_name(&self, name: &[u8]) -> bool
+    pub fn has_avp_named(&self, name: &[u8]) -> bool
         requires { IsIndexed self.now }
         ensures { result ≡ list_any (is_named name.now) self.now.avps.items }
     {
@@ -345,24 +350,24 @@ impl Tables {
     }
 
     /// Whether there is an AVP of the name, by guesses that are these AVPs'.
-    pub fn has_name_by_guess(&self, guesses: &NameGuesses, name: &[u8]) -> bool
+    pub fn has_avp_named_by_guess(&self, guesses: &NameGuesses, name: &[u8]) -> bool
         requires tables { IsTables self.now }
         requires guesses { AreGuessed self.now.avps.items guesses.now.places.items }
         ensures { result ≡ list_any (is_named name.now) self.now.avps.items }
     {
-        self.place_by_guess(guesses, name).is_some()
+        self.avp_place_by_guess(guesses, name).is_some()
     }
 
     /// Whether there is an AVP of the code and vendor.
-    pub fn has_code(&self, code: u32, vendor: Option<u32>) -> bool
+    pub fn has_avp_of_code(&self, code: u32, vendor: Option<u32>) -> bool
         requires { IsIndexed self.now }
         ensures { result ≡ list_any (is_coded code vendor) self.now.avps.items }
     {
-        self.indexed_place_by_code(code, vendor).is_some()
+        self.indexed_avp_place_by_code(code, vendor).is_some()
     }
 
     /// Whether there is a command of the name.
-    pub fn has_title(&self, name: &[u8]) -> bool
+    pub fn has_command_named(&self, name: &[u8]) -> bool
         requires { IsIndexed self.now }
         ensures { result ≡ list_any (is_titled name.now) self.now.commands.items }
     {
@@ -370,10 +375,10 @@ impl Tables {
     }
 
     /// Whether there is a command of the code with REQ and ERR.
-    pub fn has_head(&self, code: u32, request: bool, err: bool) -> bool
+    pub fn has_command_of_code(&self, code: u32, request: bool, err: bool) -> bool
         requires { IsIndexed self.now }
         ensures { result ≡ list_any (is_headed code request err) self.now.commands.items }
     {
-        self.command_by_head(code, request, err).is_some()
+        self.command_by_code(code, request, err).is_some()
     }
 }

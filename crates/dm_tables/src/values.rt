@@ -69,7 +69,7 @@ impl Debug for PlacesShown<'_> {
     fn fmt<W: Write>(&self, f: &mut Formatter<W>) -> fmt::Result {
         let mut map = f.debug_map();
         for (place, value) in self.0.iter().enumerate() {
-            if !is_listed_among(&self.0[..place], &value.number) {
+            if !is_number_among(&self.0[..place], &value.number) {
                 let _ = map.entry(&value.number, &place);
             }
         }
@@ -103,14 +103,14 @@ pub fn note_number(numbers: &mut IndexSet<i32>, number: &i32) -> Result<(), Allo
 }
 
 /// Whether a number is there.
-pub fn is_noted(numbers: &IndexSet<i32>, number: &i32) -> bool
+pub fn is_number_noted(numbers: &IndexSet<i32>, number: &i32) -> bool
     ensures { result ≡ list_any (int_eq number.now) numbers.now.keys }
 {
     numbers.contains(number)
 }
 
 /// Puts the place of a value under its number, if no earlier value has the number.
-fn note_place(
+fn note_first_place(
     places: &mut IndexMap<i32, usize>,
     number: &i32,
     place: usize,
@@ -135,14 +135,17 @@ fn first_places_by_number(
     let mut places = IndexMap::new(alloc);
     let mut place: usize = 0;
     for value in values {
-        note_place(&mut places, &value.number, place)?;
+        note_first_place(&mut places, &value.number, place)?;
         place += 1;
     }
     Ok(places)
 }
 
 /// Where the first value of each number of a long list stands. Those of a short one aren't wanted.
-fn index_if_long(alloc: Global, values: &[EnumValue]) -> Result<IndexMap<i32, usize>, AllocError>
+fn first_places_if_long(
+    alloc: Global,
+    values: &[EnumValue],
+) -> Result<IndexMap<i32, usize>, AllocError>
     ensures { IfOk result (λ places. short_list < length values.now → (n : ℤ)
         → lookup (int_eq n) places.entries ≡ position_from (has_number n) 0 values.now) }
 {
@@ -154,14 +157,14 @@ fn index_if_long(alloc: Global, values: &[EnumValue]) -> Result<IndexMap<i32, us
 }
 
 /// The first of the values that has the number, found by looking at one after the other.
-fn value_among<'a>(values: &'a [EnumValue], number: &i32) -> Option<&'a EnumValue>
+fn value_of_number_among<'a>(values: &'a [EnumValue], number: &i32) -> Option<&'a EnumValue>
     ensures { option_copied result ≡ find (has_number number.now) values.now }
 {
     values.iter().find(|value| *number == value.number)
 }
 
 /// Whether one of the values has the number, found by looking at one after the other.
-fn is_listed_among(values: &[EnumValue], number: &i32) -> bool
+fn is_number_among(values: &[EnumValue], number: &i32) -> bool
     ensures { result ≡ list_any (has_number number.now) values.now }
 {
     values.iter().any(|value| *number == value.number)
@@ -183,7 +186,7 @@ impl Values {
     pub fn new(alloc: Global, values: Vec<EnumValue>) -> Result<Values, NoMemory>
         ensures { IfOk result (λ list. list ≡ values.items) }
     {
-        let places = index_if_long(alloc, values.as_slice())?;
+        let places = first_places_if_long(alloc, values.as_slice())?;
         Ok(Values {
             items: values,
             places,
@@ -202,7 +205,7 @@ impl Values {
         ensures { result ≡ list_any (has_number number.now) self.now }
     {
         if self.items.len() <= SHORT_LIST {
-            is_listed_among(self.items.as_slice(), number)
+            is_number_among(self.items.as_slice(), number)
         } else {
             self.index_has_number(number)
         }
@@ -226,18 +229,18 @@ impl Values {
 
     /// The first value of the number. It never answers want of memory, and takes no longer for a
     /// longer list than for one of eight.
-    fn first_of_number(&self, number: &i32) -> Option<&EnumValue>
+    fn first_value_of_number(&self, number: &i32) -> Option<&EnumValue>
         ensures { option_copied result ≡ find (has_number number.now) self.now }
     {
         if self.items.len() <= SHORT_LIST {
-            value_among(self.items.as_slice(), number)
+            value_of_number_among(self.items.as_slice(), number)
         } else {
-            self.indexed_first_of_number(number)
+            self.indexed_first_value_of_number(number)
         }
     }
 
     /// The first value of the number in a long list, by the index.
-    fn indexed_first_of_number(&self, number: &i32) -> Option<&EnumValue>
+    fn indexed_first_value_of_number(&self, number: &i32) -> Option<&EnumValue>
         requires { short_list < length self.now }
         ensures { option_copied result ≡ find (has_number number.now) self.now }
     {
@@ -250,7 +253,7 @@ impl Values {
     pub fn name(&self, number: i32) -> Option<&Octets>
         ensures { option_copied result ≡ option_map (λ v. v.name) (find (has_number number) self.now) }
     {
-        match self.first_of_number(&number) {
+        match self.first_value_of_number(&number) {
             Some(value) => Some(&value.name),
             None => None,
         }
@@ -262,7 +265,7 @@ impl Clone for Values {
 
     fn clone(&self) -> Result<Values, AllocError> {
         let items = self.items.clone()?;
-        let places = index_if_long(*self.items.allocator(), items.as_slice())?;
+        let places = first_places_if_long(*self.items.allocator(), items.as_slice())?;
         Ok(Values { items, places })
     }
 }

@@ -5,7 +5,7 @@ ghost use Rattle.std.specs.Option.{option_copied};
 ghost use Rattle.dm_tables.specs.Definitions.{is_vendor, has_vendor_number, vendor_number};
 ghost use Rattle.dm_tables.specs.Vendored.{IsVendored};
 
-use crate::tables::{member_at, note_name};
+use crate::tables::{member_at, note_place_of_name};
 use crate::{NoMemory, VendorDef};
 use indexmap::{IndexMap, IndexSet};
 use std::alloc::Global;
@@ -22,14 +22,14 @@ pub struct Vendors {
 }
 
 /// The first of the vendors that has the name, found by looking at one after the other.
-fn vendor_among<'a>(vendors: &'a [VendorDef], name: &[u8]) -> Option<&'a VendorDef>
+fn vendor_named_among<'a>(vendors: &'a [VendorDef], name: &[u8]) -> Option<&'a VendorDef>
     ensures { option_copied result ≡ find (is_vendor name.now) vendors.now }
 {
     vendors.iter().find(|vendor| vendor.name.as_slice() == name)
 }
 
 /// Whether one of the first of the vendors, so many, has the name, found by looking at one after the other.
-fn is_vendor_among(vendors: &[VendorDef], first: usize, name: &[u8]) -> bool
+fn is_name_among_first(vendors: &[VendorDef], first: usize, name: &[u8]) -> bool
     ensures { result ≡ list_any (is_vendor name.now) (take first vendors.now) }
 {
     vendors
@@ -61,7 +61,7 @@ impl Vendors {
     {
         let place = self.items.as_slice().len();
         let number = vendor.number;
-        let noted = note_name(alloc, &mut self.names, vendor.name.as_slice(), place);
+        let noted = note_place_of_name(alloc, &mut self.names, vendor.name.as_slice(), place);
         self.items.push(vendor)?;
         self.numbers.insert(number)?;
         noted
@@ -73,7 +73,7 @@ impl Vendors {
         ensures { option_copied result ≡ find (is_vendor name.now) self.now.items.items }
     {
         if self.items.len() <= FEW_VENDORS {
-            vendor_among(self.items.as_slice(), name)
+            vendor_named_among(self.items.as_slice(), name)
         } else {
             self.indexed_vendor_by_name(name)
         }
@@ -108,19 +108,19 @@ impl Vendors {
     }
 
     /// Whether one of the first vendors, so many, has the name.
-    pub fn has_name_among(&self, first: usize, name: &[u8]) -> bool
+    pub fn has_name_among_first(&self, first: usize, name: &[u8]) -> bool
         requires { IsVendored self.now }
         ensures { result ≡ list_any (is_vendor name.now) (take first self.now.items.items) }
     {
         if self.items.len() <= FEW_VENDORS {
-            is_vendor_among(self.items.as_slice(), first, name)
+            is_name_among_first(self.items.as_slice(), first, name)
         } else {
-            self.index_has_name_among(first, name)
+            self.index_has_name_among_first(first, name)
         }
     }
 
     /// Whether one of the first of the vendors, so many, has the name, by the index.
-    fn index_has_name_among(&self, first: usize, name: &[u8]) -> bool
+    fn index_has_name_among_first(&self, first: usize, name: &[u8]) -> bool
         requires { IsVendored self.now }
         ensures { result ≡ list_any (is_vendor name.now) (take first self.now.items.items) }
     {

@@ -39,13 +39,13 @@ pub fn put_decimal(text: &mut String, number: u64) -> Result<(), AllocError>
     ensures { OnOk result (string_bytes text.new ≡ string_bytes text.old ++ decimal number) }
 {
     let mut room = [0; 20];
-    let start = fill_decimal(number, &mut room);
+    let start = fill_end_with_decimal(number, &mut room);
     // Digits are ASCII.
     text.push_str(unsafe { str::from_utf8_unchecked(&room[start..]) })
 }
 
 /// Puts the number's digits at the end of the room, and tells where they start.
-fn fill_decimal(number: u64, room: &mut [u8; 20]) -> usize
+fn fill_end_with_decimal(number: u64, room: &mut [u8; 20]) -> usize
     ensures bound { result ≤ 20 }
     ensures digits { drop result room.new ≡ decimal number }
 {

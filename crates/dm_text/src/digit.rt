@@ -25,7 +25,7 @@ static WORTHS: [u8; 256] = [
 
 /// The value of a hexadecimal digit in either case; 255 where the octet is none.
 #[inline(always)]
-pub fn digit_worth(octet: u8) -> u8
+pub fn hex_digit_value_or_255(octet: u8) -> u8
     ensures { result ≡ digit_worth octet }
 {
     WORTHS[usize::from(octet)]
@@ -70,7 +70,7 @@ static PAIRS: [[u8; 2]; 256] = [
 
 /// The two hexadecimal digits of an octet, in lower case.
 #[inline(always)]
-pub(crate) fn digits_of(octet: u8) -> [u8; 2]
+pub(crate) fn hex_digits_of(octet: u8) -> [u8; 2]
     ensures { result ≡ digit_pair octet }
 {
     PAIRS[usize::from(octet)]

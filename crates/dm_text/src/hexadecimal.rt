@@ -1,4 +1,4 @@
-//! Octets in hexadecimal.
+//! Octets in hexadecimal, read from digits and written as them.
 ghost use Rattle.std.specs.Prelude.{◌≡◌, ◌≤◌, ◌+◌, ◌*◌, ◌++◌, ℕ, true, false, Some, None, length, max, if◌then◌else◌};
 ghost use Rattle.std.specs.Prelude.{◌^◌, OnOk, IfOk, IfSome, IfNone};
 ghost use Rattle.std.specs.Fmt.{WritesOnOk};
@@ -9,9 +9,10 @@ ghost use Rattle.dm_text.specs.Hexadecimal.{word_octets};
 ghost use Rattle.dm_text.specs.SideBySide.{bad_marks, AreRead, HasBadDigit, PutUpTo};
 ghost use Rattle.dm_text.specs.declared.hexadecimal.TheConstants.{OCTETS_AT_ONCE as octets_at_once};
 
-use crate::digit::{digit_worth, digits_of};
+use crate::digit::{hex_digit_value_or_255, hex_digits_of};
 use crate::lanes::{
-    are_all_digits, digit_marks, high_digits, interleaved, low_digits, lower_marks, octets_of_marks,
+    are_all_digits, digit_marks, high_digits, interleaved_lanes, low_digits,
+    lower_mark_in_each_lane, octets_of_marks,
 };
 use std::alloc::{AllocError, Global};
 use std::simd::prelude::*;
@@ -30,7 +31,7 @@ pub fn read_hex_word(alloc: Global, word: &[u8]) -> Result<Option<Vec<u8>>, Allo
         return Ok(None);
     }
     let mut octets = vec![in alloc; 0; word.len() / 2]?;
-    let good = read_digits(word, octets.as_mut_slice());
+    let good = read_hex_digits(word, octets.as_mut_slice());
     if good { Ok(Some(octets)) } else { Ok(None) }
 }
 
@@ -43,11 +44,11 @@ pub(crate) fn read_hex_into(word: &[u8], octets: &mut Vec<u8>) -> Result<bool, A
         return Ok(false);
     }
     octets.resize(word.len() / 2, 0)?;
-    Ok(read_digits(word, octets.as_mut_slice()))
+    Ok(read_hex_digits(word, octets.as_mut_slice()))
 }
 
 /// Reads two digits for each octet of the room. False where a digit is bad.
-fn read_digits(word: &[u8], octets: &mut [u8]) -> bool
+fn read_hex_digits(word: &[u8], octets: &mut [u8]) -> bool
     requires { length word.now ≡ 2 * length octets.old }
     ensures { word_octets word.now ≡ (if result then Some octets.new else None) }
 {
@@ -56,7 +57,7 @@ fn read_digits(word: &[u8], octets: &mut [u8]) -> bool
     } else if octets.len() >= 8 {
         read_first_and_last_eight(word, octets)
     } else {
-        read_one_by_one(word, octets)
+        read_digits_one_by_one(word, octets)
     }
 }
 
@@ -71,10 +72,10 @@ fn read_sixteen_or_more(word: &[u8], octets: &mut [u8]) -> bool
     if !read_runs_of_sixteen(word, octets, runs) {
         return false;
     }
-    are_all_digits(read_sixteen_at(word, octets, last))
+    are_all_digits(read_sixteen_and_give_marks(word, octets, last))
 }
 
-/// Reads the digits of so many runs of sixteen octets. False where a digit is bad; the runs behind it are not read.
+/// Reads the digits of so many runs of sixteen octets. False where a digit is bad.
 fn read_runs_of_sixteen(word: &[u8], octets: &mut [u8], runs: usize) -> bool
     requires twice { length word.now ≡ 2 * length octets.old }
     requires within { 16 * runs ≤ length octets.old }
@@ -82,7 +83,7 @@ fn read_runs_of_sixteen(word: &[u8], octets: &mut [u8], runs: usize) -> bool
     ensures bad { result ≡ false → HasBadDigit word.now }
 {
     'runs: for k in 0..runs {
-        if !are_all_digits(read_sixteen_at(word, octets, 16 * k)) {
+        if !are_all_digits(read_sixteen_and_give_marks(word, octets, 16 * k)) {
             return false;
         }
     }
@@ -92,7 +93,7 @@ fn read_runs_of_sixteen(word: &[u8], octets: &mut [u8], runs: usize) -> bool
 /// Reads the digits of sixteen octets from here on, which may have been read. Gives marks that are good where each
 /// digit is.
 #[inline(always)]
-fn read_sixteen_at(word: &[u8], octets: &mut [u8], from: usize) -> u8x16
+fn read_sixteen_and_give_marks(word: &[u8], octets: &mut [u8], from: usize) -> u8x16
     requires twice { length word.now ≡ 2 * length octets.old }
     requires within { from + 16 ≤ length octets.old }
     ensures good { bad_marks result ≡ 0 → (i : ℕ) → from ≤ i → AreRead word.now octets.old i →
@@ -102,7 +103,7 @@ fn read_sixteen_at(word: &[u8], octets: &mut [u8], from: usize) -> u8x16
     let front = digit_marks(u8x16::from_slice(&word[2 * from..]));
     let back = digit_marks(u8x16::from_slice(&word[2 * from + 16..]));
     octets_of_marks(front, back).copy_to_slice(&mut octets[from..]);
-    lower_marks(front, back)
+    lower_mark_in_each_lane(front, back)
 }
 
 /// Reads the digits of the first eight octets and of the last eight, which may have some in common. False where a digit
@@ -119,19 +120,19 @@ fn read_first_and_last_eight(word: &[u8], octets: &mut [u8]) -> bool
     let read = octets_of_marks(front, back);
     read.extract::<0, 8>().copy_to_slice(octets);
     read.extract::<8, 8>().copy_to_slice(&mut octets[last..]);
-    are_all_digits(lower_marks(front, back))
+    are_all_digits(lower_mark_in_each_lane(front, back))
 }
 
 /// Reads the digits one by one. False where a digit is bad.
-fn read_one_by_one(word: &[u8], octets: &mut [u8]) -> bool
+fn read_digits_one_by_one(word: &[u8], octets: &mut [u8]) -> bool
     requires { length word.now ≡ 2 * length octets.old }
     ensures { word_octets word.now ≡ (if result then Some octets.new else None) }
 {
     let mut worst = 0;
     'octets: for i in 0..octets.len() {
-        let high = digit_worth(word[2 * i]);
-        let low = digit_worth(word[2 * i + 1]);
-        worst = larger(worst, larger(high, low));
+        let high = hex_digit_value_or_255(word[2 * i]);
+        let low = hex_digit_value_or_255(word[2 * i + 1]);
+        worst = larger_octet(worst, larger_octet(high, low));
         octets[i] = high % 16 * 16 + low % 16;
     }
     worst < 16
@@ -139,7 +140,7 @@ fn read_one_by_one(word: &[u8], octets: &mut [u8]) -> bool
 
 /// The larger of two octets.
 #[inline(always)]
-fn larger(one: u8, other: u8) -> u8
+fn larger_octet(one: u8, other: u8) -> u8
     ensures { result ≡ max one other }
 {
     if one < other { other } else { one }
@@ -170,7 +171,7 @@ fn write_hex_piece<W: fmt::Write>(f: &mut fmt::Formatter<W>, octets: &[u8]) -> f
 {
     let mut digits = [0; 2 * OCTETS_AT_ONCE];
     let room = &mut digits[..2 * octets.len()];
-    fill_digits(octets, room);
+    fill_hex_digits(octets, room);
     // Digits are ASCII.
     f.write_str(unsafe { str::from_utf8_unchecked(room) })
 }
@@ -180,16 +181,15 @@ pub fn push_hexadecimal(text: &mut Vec<u8>, octets: &[u8]) -> Result<(), AllocEr
     ensures { OnOk result (text.new.items ≡ text.old.items ++ encode_lower octets.now) }
 {
     let start = text.len();
-    let Some(end) = digits_end(start, octets.len()) else {
+    let Some(end) = hex_digits_end(start, octets.len()) else {
         return Err(AllocError);
     };
     text.resize(end, 0)?;
-    fill_digits(octets, &mut text.as_mut_slice()[start..]);
+    fill_hex_digits(octets, &mut text.as_mut_slice()[start..]);
     Ok(())
 }
 
-/// Appends the octets in lower case hexadecimal to text, so many at once: its room grows as it does for a piece after
-/// the other.
+/// Appends the octets in lower case hexadecimal to text.
 pub fn put_hexadecimal(text: &mut String, octets: &[u8]) -> Result<(), AllocError>
     ensures { OnOk result (string_bytes text.new ≡ string_bytes text.old ++ encode_lower octets.now) }
 {
@@ -209,13 +209,13 @@ fn put_hex_piece(text: &mut String, octets: &[u8]) -> Result<(), AllocError>
 {
     let mut digits = [0; 2 * OCTETS_AT_ONCE];
     let room = &mut digits[..2 * octets.len()];
-    fill_digits(octets, room);
+    fill_hex_digits(octets, room);
     // Digits are ASCII.
     text.push_str(unsafe { str::from_utf8_unchecked(room) })
 }
 
 /// Where the digits of so many octets end; None where no number has that many.
-fn digits_end(start: usize, octets: usize) -> Option<usize>
+fn hex_digits_end(start: usize, octets: usize) -> Option<usize>
     ensures end { IfSome result (λ end. end ≡ start + 2 * octets) }
     ensures none { IfNone result (2 ^ 64 ≤ start + 2 * octets) }
 {
@@ -223,38 +223,38 @@ fn digits_end(start: usize, octets: usize) -> Option<usize>
 }
 
 /// Puts two digits for each octet in the room.
-fn fill_digits(octets: &[u8], room: &mut [u8])
+fn fill_hex_digits(octets: &[u8], room: &mut [u8])
     requires { length room.old ≡ 2 * length octets.now }
     ensures { room.new ≡ encode_lower octets.now }
 {
     let runs = octets.len() / 16;
-    fill_runs_of_sixteen(octets, room, runs);
-    fill_one_by_one(octets, room, 16 * runs);
+    fill_hex_digits_of_runs(octets, room, runs);
+    fill_hex_digits_from(octets, room, 16 * runs);
 }
 
 /// Puts the digits of so many runs of sixteen octets.
-fn fill_runs_of_sixteen(octets: &[u8], room: &mut [u8], runs: usize)
+fn fill_hex_digits_of_runs(octets: &[u8], room: &mut [u8], runs: usize)
     requires twice { length room.old ≡ 2 * length octets.now }
     requires within { 16 * runs ≤ length octets.now }
     ensures { PutUpTo octets.now room.new (16 * runs) }
 {
     'runs: for k in 0..runs {
         let run = u8x16::from_slice(&octets[16 * k..]);
-        let (front, back) = interleaved(high_digits(run), low_digits(run));
+        let (front, back) = interleaved_lanes(high_digits(run), low_digits(run));
         front.copy_to_slice(&mut room[32 * k..]);
         back.copy_to_slice(&mut room[32 * k + 16..]);
     }
 }
 
 /// Puts the digits of the octets from here on.
-fn fill_one_by_one(octets: &[u8], room: &mut [u8], from: usize)
+fn fill_hex_digits_from(octets: &[u8], room: &mut [u8], from: usize)
     requires twice { length room.old ≡ 2 * length octets.now }
     requires within { from ≤ length octets.now }
     requires put { PutUpTo octets.now room.old from }
     ensures { room.new ≡ encode_lower octets.now }
 {
     'octets: for i in from..octets.len() {
-        let [high, low] = digits_of(octets[i]);
+        let [high, low] = hex_digits_of(octets[i]);
         room[2 * i] = high;
         room[2 * i + 1] = low;
     }

@@ -28,7 +28,7 @@ pub(crate) fn are_all_digits(marks: u8x16) -> bool
 
 /// The lower mark of each lane: a digit's where both are.
 #[inline(always)]
-pub(crate) fn lower_marks(marks: u8x16, others: u8x16) -> u8x16
+pub(crate) fn lower_mark_in_each_lane(marks: u8x16, others: u8x16) -> u8x16
     ensures both { bad_marks result ≡ 0 → (bad_marks marks ≡ 0) × (bad_marks others ≡ 0) }
     ensures each { bad_marks marks ≡ 0 → bad_marks others ≡ 0 → bad_marks result ≡ 0 }
 {
@@ -72,7 +72,7 @@ pub(crate) fn low_digits(octets: u8x16) -> u8x16
 
 /// The lanes by turns, one of the first, one of the second: those that come of the first eight of each, and the others.
 #[inline(always)]
-pub(crate) fn interleaved(firsts: u8x16, seconds: u8x16) -> (u8x16, u8x16)
+pub(crate) fn interleaved_lanes(firsts: u8x16, seconds: u8x16) -> (u8x16, u8x16)
     ensures { result.0 ++ result.1 ≡ by_turns firsts seconds }
 {
     firsts.interleave(seconds)

@@ -4,28 +4,28 @@ ghost use Rattle.dm_text.specs.Joined.{ContentIsJoined, LinesAreFew};
 ghost use Rattle.dm_text.specs.ReadBack.{OneNumber, NumberOrNone, NumberReadBack, OctetsReadBack};
 
 /// A word tells one number at most.
-pub fn one_number()
+pub fn each_word_tells_one_number_at_most()
     ensures { OneNumber }
 {}
 
 /// Each word tells a number or none. The law stands for users.
-pub fn number_or_none()
+pub fn each_word_tells_number_or_none()
     ensures { NumberOrNone }
 {}
 
 /// The decimal text of a number of 64 bits tells that number. The law stands for users.
-pub fn number_read_back()
+pub fn decimal_text_reads_back()
     ensures { NumberReadBack }
 {}
 
 /// Octets in lower case hexadecimal are read as what they were. The law stands for users.
-pub fn octets_read_back()
+pub fn hexadecimal_reads_back()
     ensures { OctetsReadBack }
 {}
 
 /// The lines that stand for something are those of a front and then those of the rest, and there are at most as many
 /// lines as octets, and one.
-pub fn lines_are_joined()
+pub fn lines_of_parts_are_lines_of_whole()
     ensures content { ContentIsJoined }
     ensures few { LinesAreFew }
 {}

@@ -47,7 +47,7 @@ impl<'a> Iterator for Lines<'a> {
             return None;
         }
         let rest = self.rest;
-        match line_feed(rest) {
+        match first_line_feed(rest) {
             Some(end) => {
                 self.rest = &rest[end + 1..];
                 Some(without_carriage_return(&rest[..end]))
@@ -61,7 +61,7 @@ impl<'a> Iterator for Lines<'a> {
 }
 
 /// Where the first LF stands; None where there is none.
-pub fn line_feed(input: &[u8]) -> Option<usize>
+pub fn first_line_feed(input: &[u8]) -> Option<usize>
     ensures { result ≡ position (λ b. b == 10) input.now }
 {
     memchr(b'\n', input)
@@ -78,7 +78,7 @@ fn without_carriage_return(line: &[u8]) -> &[u8]
 }
 
 /// The line without the spaces at its ends. A tab is no space.
-pub fn trim(line: &[u8]) -> &[u8]
+pub fn trim_spaces(line: &[u8]) -> &[u8]
     ensures { result.now ≡ trimmed line.now }
 {
     let mut rest = without_leading_spaces(line);
@@ -100,7 +100,7 @@ pub fn without_leading_spaces(line: &[u8]) -> &[u8]
 }
 
 /// Whether a trimmed line is empty or a comment.
-pub fn is_skipped(line: &[u8]) -> bool
+pub fn is_empty_or_comment(line: &[u8]) -> bool
     ensures { result ≡ is_skipped line.now }
 {
     matches!(line, [] | [b'#', ..])

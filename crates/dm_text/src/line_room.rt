@@ -27,7 +27,7 @@ fn has_no_space(line: &[u8]) -> bool
 }
 
 /// Puts the line into `digits` with its spaces taken out.
-fn take_out_spaces(line: &[u8], digits: &mut Vec<u8>) -> Result<(), AllocError>
+fn copy_without_spaces(line: &[u8], digits: &mut Vec<u8>) -> Result<(), AllocError>
     ensures { OnOk result (digits.new.items ≡ without_spaces line.now) }
 {
     digits.clear();
@@ -51,13 +51,13 @@ impl LineRoom {
     /// The octets that a line of hexadecimal digits in either case stands for. Spaces don't count.
     ///
     /// None where a digit is bad or their number is odd.
-    pub fn read(&mut self, line: &[u8]) -> Result<Option<&[u8]>, AllocError>
+    pub fn read_spaced_hex(&mut self, line: &[u8]) -> Result<Option<&[u8]>, AllocError>
         ensures { IfOk result (λ octets. option_map (λ o. o.now) octets ≡ line_octets line.now) }
     {
         let good = if has_no_space(line) {
             read_hex_into(line, &mut self.octets)?
         } else {
-            take_out_spaces(line, &mut self.digits)?;
+            copy_without_spaces(line, &mut self.digits)?;
             read_hex_into(self.digits.as_slice(), &mut self.octets)?
         };
         if good {

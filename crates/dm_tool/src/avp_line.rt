@@ -13,13 +13,13 @@ use dm_wire::{Avp, Octets};
 use std::alloc::{AllocError, Global};
 
 /// The AVP that a line tells, as show prints it, with any number of spaces before it; None where it tells none.
-pub fn read_avp(alloc: Global, line: &[u8]) -> Result<Option<Avp>, AllocError>
+pub fn read_avp_line(alloc: Global, line: &[u8]) -> Result<Option<Avp>, AllocError>
     ensures { IfOk result (λ read. MatchOption read ((a : Avp) → TellsAvp a line.now → ⊥) (λ a. TellsAvp a line.now)) }
 {
     let Some(told) = read_avp_words(line) else {
         return Ok(None);
     };
-    let Some(bytes) = read_data(alloc, told.word)? else {
+    let Some(bytes) = read_hex_or_dash(alloc, told.word)? else {
         return Ok(None);
     };
     Ok(Some(Avp {
@@ -47,7 +47,7 @@ fn read_avp_words(line: &[u8]) -> Option<AvpWords<'_>>
         × (words line.now ≡ code ∷ avp_marks (is_some p.vendor) p.mandatory p.protected ∷ p.word.now ∷ [])) }
     ensures none { IfNone result ((a : Avp) → TellsAvp a line.now → ⊥) }
 {
-    let (first, second, word) = three_words(line)?;
+    let (first, second, word) = only_three_words(line)?;
     let (code, vendor) = read_code_and_vendor(first)?;
     let (mandatory, protected) = read_avp_flags(second, vendor.is_some())?;
     Some(AvpWords {
@@ -60,7 +60,7 @@ fn read_avp_words(line: &[u8]) -> Option<AvpWords<'_>>
 }
 
 /// The words of a line that has just three; None for any other line.
-fn three_words(line: &[u8]) -> Option<(&[u8], &[u8], &[u8])>
+fn only_three_words(line: &[u8]) -> Option<(&[u8], &[u8], &[u8])>
     ensures told { IfSome result (λ w. words line.now ≡ w.0.now ∷ w.1.now ∷ w.2.now ∷ []) }
     ensures none { IfNone result ((a b c : List ℕ) → words line.now ≡ a ∷ b ∷ c ∷ [] → ⊥) }
 {
@@ -115,7 +115,7 @@ fn read_avp_flags(word: &[u8], has_vendor: bool) -> Option<(bool, bool)>
 }
 
 /// The octets that a word tells: hexadecimal digits in either case, or `-` for none; None where it tells none.
-fn read_data(alloc: Global, word: &[u8]) -> Result<Option<Vec<u8>>, AllocError>
+fn read_hex_or_dash(alloc: Global, word: &[u8]) -> Result<Option<Vec<u8>>, AllocError>
     ensures { IfOk result (λ read. MatchOption read ((bytes : List ℕ) → TellsData bytes word.now → ⊥)
         (λ bytes. TellsData bytes.items word.now)) }
 {

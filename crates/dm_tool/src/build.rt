@@ -4,8 +4,8 @@ ghost use Rattle.dm_tool.specs.Build.{BuildsText};
 
 use crate::built_messages::Building;
 use crate::fault::ToolFault;
-use dm_text::laws::lines_are_joined;
-use dm_text::{Lines, push_syntax_fault};
+use dm_text::laws::lines_of_parts_are_lines_of_whole;
+use dm_text::{Lines, push_syntax_fault_of_line};
 use std::alloc::Global;
 
 /// The text for an input, and whether all of it is good.
@@ -13,16 +13,16 @@ pub fn build_text(alloc: Global, input: &[u8]) -> Result<(Vec<u8>, bool), ToolFa
     ensures built { IfOk result (λ built. BuildsText input.now built.0.items built.1) }
     ensures fault { IfErr result (λ e. e ≡ ToolFault.Memory) }
 {
-    lines_are_joined();
+    lines_of_parts_are_lines_of_whole();
     let mut building = Building::new(alloc);
     let mut before: u64 = 0;
     for line in Lines::new(input) {
         if !building.take_line(alloc, line)? {
-            let mut text = building.into_text();
-            push_syntax_fault(&mut text, before + 1)?;
+            let mut text = building.into_text_before_last_message();
+            push_syntax_fault_of_line(&mut text, before + 1)?;
             return Ok((text, false));
         }
         before += 1;
     }
-    building.end(alloc)
+    building.into_whole_text(alloc)
 }

@@ -1,4 +1,4 @@
-//! Messages that are built line by line.
+//! Messages that are built line by line, and the lines of their octets.
 ghost use Rattle.std.specs.Prelude.{◌≡◌, ◌++◌, ◌∷◌, [], ◌⊎◌, ◌&&◌, ◌≢◌, ℕ, Bool, true, false, None, List};
 ghost use Rattle.std.specs.Prelude.{IfOk, IfErr, OnOk};
 ghost use Rattle.dm_wire.specs.declared.avp.Avp.{Avp};
@@ -8,11 +8,11 @@ ghost use Rattle.dm_tool.specs.Messages.{TellsAvp, TellsAll};
 ghost use Rattle.dm_tool.specs.Build.{BuildsOctets, BuildsTooLong, BuildsMessages};
 ghost use Rattle.dm_tool.specs.Progress.{last_message, HoldsBehind, GoesOnNowhere};
 
-use crate::avp_line::read_avp;
+use crate::avp_line::read_avp_line;
 use crate::fault::ToolFault;
-use crate::header_line::read_header;
+use crate::header_line::read_header_line;
 use crate::message_text::push_message_fault;
-use dm_text::{is_skipped, push_hexadecimal, trim};
+use dm_text::{is_empty_or_comment, push_hexadecimal, trim_spaces};
 use dm_wire::{Avp, AvpList, Header, Message};
 use std::alloc::Global;
 use std::mem;
@@ -41,19 +41,19 @@ impl Building {
     }
 
     /// The text for the messages before the last.
-    pub fn into_text(self) -> Vec<u8>
+    pub fn into_text_before_last_message(self) -> Vec<u8>
         ensures { result.items ≡ self.text.items }
     {
         self.text
     }
 
     /// The text for all messages, and whether all are good.
-    pub fn end(mut self, alloc: Global) -> Result<(Vec<u8>, bool), ToolFault>
+    pub fn into_whole_text(mut self, alloc: Global) -> Result<(Vec<u8>, bool), ToolFault>
         ensures built { IfOk result (λ built. (lines : List (List ℕ)) → HoldsBehind lines self
             → (l : List Message) × TellsAll l lines × BuildsMessages l built.0.items built.1) }
         ensures fault { IfErr result (λ e. e ≡ ToolFault.Memory) }
     {
-        self.end_message(alloc)?;
+        self.push_last_message_if_any(alloc)?;
         Ok((self.text, self.good))
     }
 
@@ -66,22 +66,22 @@ impl Building {
         ensures kept { IfOk result (λ taken. taken ≡ false → self.new ≡ self.old) }
         ensures fault { IfErr result (λ e. e ≡ ToolFault.Memory) }
     {
-        let line = trim(line);
-        if is_skipped(line) {
+        let line = trim_spaces(line);
+        if is_empty_or_comment(line) {
             return Ok(true);
         }
-        match read_header(line) {
+        match read_header_line(line) {
             Some(header) => {
-                self.end_message(alloc)?;
+                self.push_last_message_if_any(alloc)?;
                 self.last = Some(header);
                 Ok(true)
             }
-            None => self.take_avp(alloc, line),
+            None => self.take_avp_line(alloc, line),
         }
     }
 
     /// Goes on with the line of an AVP of the last message. False where it is none.
-    fn take_avp(&mut self, alloc: Global, line: &[u8]) -> Result<bool, ToolFault>
+    fn take_avp_line(&mut self, alloc: Global, line: &[u8]) -> Result<bool, ToolFault>
         ensures taken { IfOk result (λ taken. taken ≡ true → (lines : List (List ℕ)) → HoldsBehind lines self.old
             → HoldsBehind (lines ++ line.now ∷ []) self.new) }
         ensures refused { IfOk result (λ taken. taken ≡ false → self.old.last ≢ None
@@ -92,7 +92,7 @@ impl Building {
         if self.last.is_none() {
             return Ok(false);
         }
-        match read_avp(alloc, line)? {
+        match read_avp_line(alloc, line)? {
             Some(avp) => {
                 self.avps.push(avp)?;
                 Ok(true)
@@ -102,7 +102,7 @@ impl Building {
     }
 
     /// Puts the last message into the text, where there is one.
-    fn end_message(&mut self, alloc: Global) -> Result<(), ToolFault>
+    fn push_last_message_if_any(&mut self, alloc: Global) -> Result<(), ToolFault>
         ensures built { OnOk result ((more : List ℕ) × (fine : Bool)
             × (self.new.text.items ≡ self.old.text.items ++ more)
             × (self.new.good ≡ (self.old.good && fine))
@@ -116,7 +116,7 @@ impl Building {
                 header,
                 avps: AvpList::from_vec(avps),
             };
-            let fine = push_octets_line(alloc, &mut self.text, &message)?;
+            let fine = push_octets_or_fault_line(alloc, &mut self.text, &message)?;
             self.good &= fine;
             self.avps = message.avps.into_vec();
         }
@@ -127,7 +127,11 @@ impl Building {
 
 /// Appends the line of the octets of a message in hexadecimal, or of its fault. True where it has octets.
 #[tactic(auto, unfolding(crate::specs::Text::fault_text))]
-fn push_octets_line(alloc: Global, text: &mut Vec<u8>, message: &Message) -> Result<bool, ToolFault>
+fn push_octets_or_fault_line(
+    alloc: Global,
+    text: &mut Vec<u8>,
+    message: &Message,
+) -> Result<bool, ToolFault>
     ensures built { IfOk result (λ good. (more : List ℕ) × (text.new.items ≡ text.old.items ++ more)
         × (BuildsOctets message.now more good ⊎ BuildsTooLong message.now more good)) }
     ensures fault { IfErr result (λ e. e ≡ ToolFault.Memory) }

@@ -2,7 +2,7 @@
 ghost use Rattle.std.specs.Prelude.{◌≡◌, ◌<◌, ◌≤◌, ◌∷◌, [], length, drop, take, IfSome, IfNone};
 ghost use Rattle.dm_tool.specs.Divided.{whole_lines, is_divider, dictionary_part, message_part};
 
-use dm_text::{Lines, line_feed, trim};
+use dm_text::{Lines, first_line_feed, trim_spaces};
 
 /// An input that begins with a dictionary.
 #[derive(Drop)]
@@ -14,12 +14,12 @@ pub struct Divided<'a> {
 }
 
 /// Divides an input at its first line `%%`.
-pub fn divide(input: &[u8]) -> Divided<'_>
+pub fn divide_at_divider(input: &[u8]) -> Divided<'_>
     ensures dictionary { result.dictionary.now ≡ dictionary_part input.now }
     ensures messages { result.messages.now ≡ message_part input.now }
 {
     let mut size = 0;
-    'lines: while let Some(end) = line_end(&input[size..]) {
+    'lines: while let Some(end) = first_line_len(&input[size..]) {
         let next = size + end;
         if is_divider(&input[size..next]) {
             return Divided {
@@ -36,7 +36,7 @@ pub fn divide(input: &[u8]) -> Divided<'_>
 }
 
 /// How many octets the first line has, with the LF that ends it; nothing where there is no line.
-fn line_end(input: &[u8]) -> Option<usize>
+fn first_line_len(input: &[u8]) -> Option<usize>
     ensures some { IfSome result (λ end. whole_lines input.now
         ≡ take end input.now ∷ whole_lines (drop end input.now)) }
     ensures within { IfSome result (λ end. end ≤ length input.now) }
@@ -46,7 +46,7 @@ fn line_end(input: &[u8]) -> Option<usize>
     if input.is_empty() {
         return None;
     }
-    match line_feed(input) {
+    match first_line_feed(input) {
         Some(at) => Some(at + 1),
         None => Some(input.len()),
     }
@@ -57,7 +57,7 @@ fn is_divider(line: &[u8]) -> bool
     ensures { result ≡ is_divider line.now }
 {
     match Lines::new(line).next() {
-        Some(line) => trim(line) == b"%%".as_slice(),
+        Some(line) => trim_spaces(line) == b"%%".as_slice(),
         None => false,
     }
 }

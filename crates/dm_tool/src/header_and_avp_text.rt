@@ -43,7 +43,7 @@ pub fn push_avp(text: &mut Vec<u8>, avp: AvpRef<'_>) -> Result<(), AllocError>
     push_vendor(text, avp.vendor)?;
     let [v, m, p] = avp_letters(avp.vendor.is_some(), avp.mandatory, avp.protected);
     text.extend_from_slice(&[b' ', v, m, p, b' '])?;
-    push_data(text, avp.bytes)
+    push_hex_or_dash(text, avp.bytes)
 }
 
 /// Appends the vendor behind a `/`; nothing where there is none.
@@ -60,7 +60,7 @@ fn push_vendor(text: &mut Vec<u8>, vendor: Option<u32>) -> Result<(), AllocError
 }
 
 /// Appends the data in hexadecimal, or `-` where there is none.
-fn push_data(text: &mut Vec<u8>, octets: &[u8]) -> Result<(), AllocError>
+fn push_hex_or_dash(text: &mut Vec<u8>, octets: &[u8]) -> Result<(), AllocError>
     ensures { OnOk result (text.new.items ≡ text.old.items ++ data_text octets.now) }
 {
     if octets.is_empty() {

@@ -10,12 +10,12 @@ use dm_text::{Words, read_number};
 use dm_wire::Header;
 
 /// The header that a line tells, as show prints it; None where it tells none.
-pub fn read_header(line: &[u8]) -> Option<Header>
+pub fn read_header_line(line: &[u8]) -> Option<Header>
     ensures told { IfSome result (λ h. TellsHeader h line.now) }
     ensures none { IfNone result ((h : Header) → TellsHeader h line.now → ⊥) }
 {
     let mut words = Words::new(line);
-    let command = read_named_number(&mut words, b"message")?;
+    let command = next_named_number(&mut words, b"message")?;
     let flags = read_header_flags(words.next()?)?;
     let names = read_header_numbers(&mut words)?;
     Some(Header {
@@ -43,9 +43,9 @@ fn read_header_numbers(left: &mut Words<'_>) -> Option<Names>
     ensures told { IfSome result (λ n. TellsNames n.application n.hop_id n.end_id (words left.old)) }
     ensures none { IfNone result ((a h e : ℕ) → TellsNames a h e (words left.old) → ⊥) }
 {
-    let application = read_named_number(left, b"app")?;
-    let hop_id = read_named_number(left, b"hop")?;
-    let end_id = read_named_number(left, b"end")?;
+    let application = next_named_number(left, b"app")?;
+    let hop_id = next_named_number(left, b"hop")?;
+    let end_id = next_named_number(left, b"end")?;
     if left.next().is_some() {
         return None;
     }
@@ -57,7 +57,7 @@ fn read_header_numbers(left: &mut Words<'_>) -> Option<Names>
 }
 
 /// The number behind this name, where these are the next two words, else None.
-fn read_named_number(left: &mut Words<'_>, name: &[u8]) -> Option<u32>
+fn next_named_number(left: &mut Words<'_>, name: &[u8]) -> Option<u32>
     ensures told { IfSome result (λ n. (digits : List ℕ)
         × (words left.old ≡ name.now ∷ digits ∷ words left.new) × TellsNumber n digits) }
     ensures none { IfNone result ((n : ℕ) (digits : List ℕ) (more : List (List ℕ))

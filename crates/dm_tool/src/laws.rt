@@ -4,34 +4,34 @@ ghost use Rattle.dm_tool.specs.OnePrint.{OnePrint};
 ghost use Rattle.dm_tool.specs.OneText.{OneText, SomeText};
 
 /// Under one command an input has at most one text and one status. The law stands for users.
-pub fn one_text()
+pub fn commands_print_one_text_at_most()
     ensures { OneText }
 {
-    dm_wire::laws::one_message();
-    dm_wire::laws::one_refusal();
-    dm_wire::laws::no_message_refused();
-    dm_dict_text::laws::one_definition();
-    dm_dict_text::laws::one_fault();
-    dm_dict_text::laws::no_definition_refused();
-    dm_text::laws::lines_are_joined();
-    dm_replay::laws::one_replay();
+    dm_wire::laws::octets_begin_with_one_message_at_most();
+    dm_wire::laws::octets_have_at_most_one_fault();
+    dm_wire::laws::octets_of_messages_have_no_fault();
+    dm_dict_text::laws::each_text_defines_one_whole_at_most();
+    dm_dict_text::laws::each_text_has_one_first_fault_at_most();
+    dm_dict_text::laws::defining_texts_have_no_fault();
+    dm_text::laws::lines_of_parts_are_lines_of_whole();
+    dm_replay::laws::no_text_has_two_replays();
 }
 
-/// Under one command each input has a text and a status. The law stands for users.
-pub fn some_text()
+/// Under each command each input has a text and a status. The law stands for users.
+pub fn commands_always_have_a_text_to_print()
     ensures { SomeText }
 {
-    dm_wire::laws::message_or_fault();
-    dm_wire::laws::canonical_spells();
-    dm_wire::laws::reads_back();
-    dm_wire::laws::equal_messages();
-    dm_wire::laws::no_message_refused();
-    dm_dict_text::laws::some_outcome();
-    dm_text::laws::lines_are_joined();
-    dm_replay::laws::some_replay();
+    dm_wire::laws::octets_spell_message_or_have_fault();
+    dm_wire::laws::canonical_octets_spell_message();
+    dm_wire::laws::encoded_messages_read_back();
+    dm_wire::laws::equal_messages_are_the_same();
+    dm_wire::laws::octets_of_messages_have_no_fault();
+    dm_dict_text::laws::each_text_defines_or_has_fault();
+    dm_text::laws::lines_of_parts_are_lines_of_whole();
+    dm_replay::laws::each_text_has_a_replay();
 }
 
 /// Headers, AVPs and verdicts are printed just as their `Display` prints them. The law stands for users.
-pub fn one_print()
+pub fn program_prints_as_display_does()
     ensures { OnePrint }
 {}

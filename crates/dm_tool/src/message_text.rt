@@ -1,4 +1,4 @@
-//! Messages and faults as text.
+//! Messages, and faults of octets that are none, as text.
 ghost use Rattle.std.specs.Prelude.{◌≡◌, ◌≢◌, ◌++◌, List, OnOk, IfErr};
 ghost use Rattle.std.specs.List.{flat_map};
 ghost use Rattle.dm_wire.specs.declared.avp.Avp.{Avp};
@@ -9,7 +9,7 @@ ghost use Rattle.dm_tool.specs.Text.{shown_avp, message_text, fault_text};
 use crate::fault::ToolFault;
 use crate::header_and_avp_text::{push_avp, push_header};
 use dm_text::push_decimal;
-use dm_wire::laws::spelled_are_members;
+use dm_wire::laws::spelled_avps_are_members;
 use dm_wire::{AvpRef, AvpsRef, MessageRef, WireFault};
 use std::alloc::AllocError;
 
@@ -18,7 +18,7 @@ pub fn push_message_text(text: &mut Vec<u8>, message: &MessageRef<'_>) -> Result
     ensures { (l : List Avp) → SpellsList l message.now.rest.now → OnOk result (text.new.items
         ≡ text.old.items ++ message_text (record { header = message.now.header; avps = l })) }
 {
-    spelled_are_members();
+    spelled_avps_are_members();
     push_header(text, message.header)?;
     text.push(b'\n')?;
     push_avp_lines(text, AvpsRef::Spelled(message.rest))?;

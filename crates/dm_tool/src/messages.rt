@@ -11,7 +11,7 @@ use crate::fault::ToolFault;
 use crate::message_text::{push_message_fault, push_message_text};
 use crate::verdict::push_judged_line;
 use dm_dict::Dictionary;
-use dm_text::{LineRoom, Lines, is_skipped, trim};
+use dm_text::{LineRoom, Lines, is_empty_or_comment, trim_spaces};
 use dm_wire::{MessageRef, WireFault};
 use std::alloc::Global;
 
@@ -37,8 +37,8 @@ pub fn messages_text(
     let mut room = LineRoom::new(alloc);
     let mut good = true;
     for line in Lines::new(input) {
-        let line = trim(line);
-        if !is_skipped(line) {
+        let line = trim_spaces(line);
+        if !is_empty_or_comment(line) {
             let fine = push_text_for_line(alloc, task, line, &mut room, &mut text)?;
             good = good && fine;
         }
@@ -58,7 +58,7 @@ fn push_text_for_line(
         × PrintsLine (answer_of task.entry) line.now more good) }
     ensures fault { IfErr result (λ e. e ≡ ToolFault.Memory) }
 {
-    match room.read(line)? {
+    match room.read_spaced_hex(line)? {
         Some(octets) => push_text_for_octets(alloc, task, octets, text),
         None => {
             text.extend_from_slice(b"fault hex\n")?;
@@ -79,13 +79,13 @@ fn push_text_for_octets(
     ensures fault { IfErr result (λ e. e ≡ ToolFault.Memory) }
 {
     match task {
-        Task::Show => show_octets(octets, text),
-        Task::Check(dictionary) => check_octets(alloc, dictionary, octets, text),
+        Task::Show => push_message_or_fault(octets, text),
+        Task::Check(dictionary) => push_verdict_or_fault(alloc, dictionary, octets, text),
     }
 }
 
 /// Appends the text of the message that the octets spell, or of their fault. Of the message nothing is copied.
-fn show_octets(octets: &[u8], text: &mut Vec<u8>) -> Result<bool, ToolFault>
+fn push_message_or_fault(octets: &[u8], text: &mut Vec<u8>) -> Result<bool, ToolFault>
     ensures printed { IfOk result (λ good. (more : List ℕ) × (text.new.items ≡ text.old.items ++ more)
         × (PrintsMessage show_answer octets.now more good ⊎ PrintsFault octets.now more good)) }
     ensures fault { IfErr result (λ e. e ≡ ToolFault.Memory) }
@@ -100,7 +100,7 @@ fn show_octets(octets: &[u8], text: &mut Vec<u8>) -> Result<bool, ToolFault>
 }
 
 /// Appends the verdict on the message that the octets spell, or their fault. Of the message nothing is copied.
-fn check_octets(
+fn push_verdict_or_fault(
     alloc: Global,
     dictionary: &Dictionary,
     octets: &[u8],

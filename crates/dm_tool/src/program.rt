@@ -11,10 +11,10 @@ ghost use Rattle.dm_tool.specs.Limits.{HasMost};
 ghost use Rattle.dm_tool.specs.Run.{Prints, RanTool};
 
 use crate::fault::ToolFault;
-use crate::run::run_chosen;
+use crate::run::run_words_on_source;
 use crate::source::Source;
 use crate::status::ending;
-use dm_io::{WordsFault, end_program};
+use dm_io::{WordsFault, write_ending_words};
 use std::alloc::Global;
 use std::io::Write;
 
@@ -53,7 +53,7 @@ pub fn run_program<S: Source, W: Write, E: Write>(
 {
     match words {
         Ok(words) => {
-            let outcome = run_chosen(alloc, words.as_slice(), reader, writer);
+            let outcome = run_words_on_source(alloc, words.as_slice(), reader, writer);
             drop(words);
             end_with_outcome(outcome, errors)
         }
@@ -72,5 +72,5 @@ fn end_with_outcome<E: Write>(outcome: Option<Result<bool, ToolFault>>, errors: 
         × Appends (E.contents errors.old) (E.contents errors.new) front }
 {
     let (status, words) = ending(outcome);
-    end_program(outcome, status, words, errors)
+    write_ending_words(outcome, status, words, errors)
 }

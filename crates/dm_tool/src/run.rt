@@ -7,13 +7,13 @@ ghost use Rattle.dm_tool.specs.Limits.{HasMost};
 ghost use Rattle.dm_tool.specs.Run.{Prints, RanTool};
 
 use crate::build::build_text;
-use crate::check::{check_text, check_with_dictionary};
+use crate::check::{check_text, check_text_with_dictionary};
 use crate::choice::{Choice, choose};
 use crate::fault::ToolFault;
 use crate::input::read_input;
 use crate::messages::{Task, messages_text};
 use crate::source::Source;
-use dm_io::write_text;
+use dm_io::write_text_and_flush;
 use dm_replay::replay_text;
 use std::alloc::Global;
 use std::io::{Read, Write};
@@ -36,11 +36,11 @@ pub fn run_words<R: Read, W: Write>(
     ensures unread { IfNone result (reader.new ≡ reader.old) }
     ensures unwritten { IfNone result (writer.new ≡ writer.old) }
 {
-    run_chosen(alloc, words, reader, writer)
+    run_words_on_source(alloc, words, reader, writer)
 }
 
 /// Runs the command that the words choose over all that the source gives, as [`run_words`] does over a reader.
-pub fn run_chosen<S: Source, W: Write>(
+pub fn run_words_on_source<S: Source, W: Write>(
     alloc: Global,
     words: &[String],
     reader: &mut S,
@@ -71,7 +71,7 @@ pub fn run_choice<S: Source, W: Write>(
 {
     let input = read_input(alloc, reader)?;
     let (text, good) = command_text(alloc, choice, input.as_slice())?;
-    match write_text(writer, text.as_slice()) {
+    match write_text_and_flush(writer, text.as_slice()) {
         Ok(()) => Ok(good),
         Err(_) => Err(ToolFault::Write),
     }
@@ -85,7 +85,7 @@ fn command_text(alloc: Global, choice: Choice, input: &[u8]) -> Result<(Vec<u8>,
     match choice {
         Choice::Show => messages_text(alloc, Task::Show, input),
         Choice::Check { with_dict: false } => check_text(alloc, input),
-        Choice::Check { with_dict: true } => check_with_dictionary(alloc, input),
+        Choice::Check { with_dict: true } => check_text_with_dictionary(alloc, input),
         Choice::Build => build_text(alloc, input),
         Choice::Replay => Ok(replay_text(alloc, input)?),
     }

@@ -30,7 +30,7 @@ pub fn push_judged_line(
             code,
             failed: Failed::Found(avp),
         } => {
-            push_bad_line(text, code, Some(avp))?;
+            push_bad_verdict_line(text, code, Some(avp))?;
             Ok(false)
         }
         _ => {
@@ -49,7 +49,7 @@ fn push_verdict_line(text: &mut Vec<u8>, verdict: &Verdict) -> Result<bool, Allo
 {
     match verdict {
         Verdict::Good => text.extend_from_slice(b"good\n")?,
-        Verdict::Bad { code, failed } => push_bad_line(
+        Verdict::Bad { code, failed } => push_bad_verdict_line(
             text,
             *code,
             failed.as_ref().map(Avp::borrowed),
@@ -59,7 +59,7 @@ fn push_verdict_line(text: &mut Vec<u8>, verdict: &Verdict) -> Result<bool, Allo
 }
 
 /// Appends the line for a fault: its Result-Code and the failed AVP, where there is one.
-fn push_bad_line(
+fn push_bad_verdict_line(
     text: &mut Vec<u8>,
     code: u32,
     failed: Option<AvpRef<'_>>,

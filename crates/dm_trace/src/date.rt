@@ -24,14 +24,14 @@ pub(crate) fn seconds_since_1900(seconds: i64) -> u64
 }
 
 /// Whether a value of type Time has these seconds since 1900 (RFC 6733, 4.3.1).
-pub(crate) fn is_time_value(seconds: u64) -> bool
+pub(crate) fn fits_time_value(seconds: u64) -> bool
     ensures { result ≡ is_dated seconds }
 {
     seconds >= 0x8000_0000 && seconds < 0x1_8000_0000
 }
 
 /// The date and the time of day of an instant that is told in seconds since 1900, where a value of type Time has these.
-pub(crate) fn date_of(seconds: u64) -> Utc
+pub(crate) fn utc_of_seconds_since_1900(seconds: u64) -> Utc
     requires { IsTrue (is_dated seconds) }
     ensures { result ≡ utc_at seconds }
 {

@@ -15,13 +15,13 @@ pub(crate) fn put_last_digits(text: &mut String, count: u8, number: u64) -> Resu
 {
     let mut room = [0; MOST_DIGITS];
     let digits = &mut room[..count as usize];
-    fill_digits(digits, number);
+    fill_with_last_digits(digits, number);
     // Digits are ASCII.
     text.push_str(unsafe { str::from_utf8_unchecked(digits) })
 }
 
 /// Fills the room with digits of a number, its last one at the end.
-fn fill_digits(room: &mut [u8], number: u64)
+fn fill_with_last_digits(room: &mut [u8], number: u64)
     ensures { room.new ≡ last_digits (length room.old) number }
 {
     let mut left = number;

@@ -9,14 +9,14 @@ ghost use Rattle.dm_trace.specs.JsonFronts.{time_member, place_members, seen_mem
 
 use crate::endpoint::put_endpoint;
 use crate::seen::{Seen, Transport};
-use crate::time::{Clock, put_time};
+use crate::time::{Clock, put_time_or_dash};
 use dm_capture::Time;
 use dm_flows::Endpoint;
 use dm_view::JsonText;
 use std::alloc::AllocError;
 
 /// Appends when a message was seen, as a member `time`; nothing where that isn't known.
-fn put_time_member(
+fn put_time_member_if_known(
     json: &mut JsonText,
     room: &mut String,
     clock: Clock,
@@ -28,15 +28,15 @@ fn put_time_member(
     match time {
         Some(time) => {
             room.clear();
-            put_time(room, clock, Some(time))?;
-            json.text_member("time", room.as_str())
+            put_time_or_dash(room, clock, Some(time))?;
+            json.put_text_member("time", room.as_str())
         }
         None => Ok(()),
     }
 }
 
-/// Appends an end of a connection as a member under this key.
-fn put_end_member(
+/// Appends an end of a connection, an address and a port, as a member under this key.
+fn put_endpoint_member(
     json: &mut JsonText,
     room: &mut String,
     name: &str,
@@ -46,7 +46,7 @@ fn put_end_member(
 {
     room.clear();
     put_endpoint(room, endpoint)?;
-    json.text_member(name, room.as_str())
+    json.put_text_member(name, room.as_str())
 }
 
 /// Appends what carried a message, as a member `transport`.
@@ -54,7 +54,7 @@ fn put_transport_member(json: &mut JsonText, transport: Transport) -> Result<(),
     ensures { OnOk result (json.new
         ≡ json.old ++ key (codes "transport") ∷ string (transport_word transport) ∷ []) }
 {
-    json.text_member("transport", transport.word())
+    json.put_text_member("transport", transport.name())
 }
 
 /// Appends what carried a message, and in which packet, as members `transport` and `packet`.
@@ -67,8 +67,8 @@ fn put_transport_and_packet_members(
         ≡ json.old ++ members_tokens (place_members transport packet more)) }
 {
     put_transport_member(json, transport)?;
-    json.key("packet")?;
-    json.number(packet)
+    json.put_key("packet")?;
+    json.put_number(packet)
 }
 
 /// Appends when, between whom and in which packet a message was seen, as members of an object that is open: `time`,
@@ -76,7 +76,7 @@ fn put_transport_and_packet_members(
 ///
 /// `room` is for texts that aren't at hand: what it held is lost, and what it holds then doesn't matter. Where memory
 /// is wanted, what is appended is of no use.
-pub fn put_json_front(
+pub fn put_seen_members(
     json: &mut JsonText,
     room: &mut String,
     clock: Clock,
@@ -85,9 +85,9 @@ pub fn put_json_front(
     ensures { (more : Members) → OnOk result (json.new ++ members_tokens more
         ≡ json.old ++ members_tokens (seen_members clock seen.now more)) }
 {
-    put_time_member(json, room, clock, seen.time)?;
-    put_end_member(json, room, "from", seen.from)?;
-    put_end_member(json, room, "to", seen.to)?;
+    put_time_member_if_known(json, room, clock, seen.time)?;
+    put_endpoint_member(json, room, "from", seen.from)?;
+    put_endpoint_member(json, room, "to", seen.to)?;
     put_transport_and_packet_members(json, seen.transport, seen.packet)?;
     Ok(())
 }

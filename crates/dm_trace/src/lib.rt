@@ -11,6 +11,6 @@ mod seen;
 mod time;
 
 pub use endpoint::put_endpoint;
-pub use json_seen::put_json_front;
-pub use seen::{Seen, Transport, put_front};
-pub use time::{Clock, put_time};
+pub use json_seen::put_seen_members;
+pub use seen::{Seen, Transport, put_seen};
+pub use time::{Clock, put_time_or_dash};

@@ -43,7 +43,7 @@ fn nanoseconds_since_1970(time: Time) -> i128
 }
 
 /// Appends nanoseconds as seconds, with nine digits of a fraction.
-fn put_as_seconds(text: &mut String, nanoseconds: u128) -> Result<(), AllocError>
+fn put_nanoseconds_as_seconds(text: &mut String, nanoseconds: u128) -> Result<(), AllocError>
     ensures { OnOk result (string_bytes text.new ≡ string_bytes text.old ++ seconds_text nanoseconds) }
 {
     let second = u128::from(SECOND);
@@ -52,13 +52,13 @@ fn put_as_seconds(text: &mut String, nanoseconds: u128) -> Result<(), AllocError
 }
 
 /// Appends nanoseconds as seconds, with nine digits of a fraction, behind `-` where they are below 0.
-fn put_as_signed_seconds(text: &mut String, nanoseconds: i128) -> Result<(), AllocError>
+fn put_signed_nanoseconds_as_seconds(text: &mut String, nanoseconds: i128) -> Result<(), AllocError>
     ensures { OnOk result (string_bytes text.new ≡ string_bytes text.old ++ signed_seconds_text nanoseconds) }
 {
     if nanoseconds < 0 {
         text.push_str("-")?;
     }
-    put_as_seconds(text, nanoseconds.unsigned_abs())
+    put_nanoseconds_as_seconds(text, nanoseconds.unsigned_abs())
 }
 
 /// The nanoseconds from a first time to another one, below 0 where that one is before.
@@ -70,8 +70,12 @@ fn nanoseconds_between(first: Time, time: Time) -> i128
 
 /// Appends the seconds from a first time to another one, with nine digits of a fraction, behind `-` where that one is
 /// before.
-pub(crate) fn put_elapsed(text: &mut String, first: Time, time: Time) -> Result<(), AllocError>
+pub(crate) fn put_elapsed_seconds(
+    text: &mut String,
+    first: Time,
+    time: Time,
+) -> Result<(), AllocError>
     ensures { OnOk result (string_bytes text.new ≡ string_bytes text.old ++ elapsed_text first time) }
 {
-    put_as_signed_seconds(text, nanoseconds_between(first, time))
+    put_signed_nanoseconds_as_seconds(text, nanoseconds_between(first, time))
 }

@@ -4,7 +4,7 @@ ghost use Rattle.std.specs.String.{string_bytes};
 ghost use Rattle.dm_trace.specs.Fronts.{transport_word, ends_text, place_text, front_text};
 
 use crate::endpoint::put_endpoint;
-use crate::time::{Clock, put_time};
+use crate::time::{Clock, put_time_or_dash};
 use dm_capture::Time;
 use dm_flows::Endpoint;
 use dm_text::put_decimal;
@@ -34,7 +34,7 @@ pub struct Seen {
 
 impl Transport {
     /// Its name: `tcp` or `sctp`.
-    pub fn word(self) -> &'static str
+    pub fn name(self) -> &'static str
         ensures { result.now ≡ transport_word self }
     {
         match self {
@@ -45,7 +45,7 @@ impl Transport {
 }
 
 /// Appends between whom a message was seen: ` FROM > TO`.
-fn put_ends(text: &mut String, from: Endpoint, to: Endpoint) -> Result<(), AllocError>
+fn put_from_and_to(text: &mut String, from: Endpoint, to: Endpoint) -> Result<(), AllocError>
     ensures { OnOk result (string_bytes text.new ≡ string_bytes text.old ++ ends_text from to) }
 {
     text.push_str(" ")?;
@@ -64,7 +64,7 @@ fn put_transport_and_packet(
     ensures { OnOk result (string_bytes text.new ≡ string_bytes text.old ++ place_text transport packet) }
 {
     text.push_str(" ")?;
-    text.push_str(transport.word())?;
+    text.push_str(transport.name())?;
     text.push_str(" packet ")?;
     put_decimal(text, packet)
 }
@@ -73,11 +73,11 @@ fn put_transport_and_packet(
 /// `2026-11-23T02:15:00.123456Z 10.0.0.1:41234 > [2001:db8::1]:3868 tcp packet 17`.
 ///
 /// Where memory is wanted, what is appended is of no use.
-pub fn put_front(text: &mut String, clock: Clock, seen: &Seen) -> Result<(), AllocError>
+pub fn put_seen(text: &mut String, clock: Clock, seen: &Seen) -> Result<(), AllocError>
     ensures { OnOk result (string_bytes text.new ≡ string_bytes text.old ++ front_text clock seen.now) }
 {
-    put_time(text, clock, seen.time)?;
-    put_ends(text, seen.from, seen.to)?;
+    put_time_or_dash(text, clock, seen.time)?;
+    put_from_and_to(text, seen.from, seen.to)?;
     put_transport_and_packet(text, seen.transport, seen.packet)?;
     Ok(())
 }

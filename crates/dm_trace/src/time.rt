@@ -5,9 +5,11 @@ ghost use Rattle.std.specs.String.{string_bytes};
 ghost use Rattle.dm_trace.specs.Digits.{last_digits};
 ghost use Rattle.dm_trace.specs.Times.{fraction_text, instant_text, clock_text, when_text};
 
-use crate::date::{date_of, is_time_value, put_date_and_time, seconds_since_1900};
+use crate::date::{
+    fits_time_value, put_date_and_time, seconds_since_1900, utc_of_seconds_since_1900,
+};
 use crate::digits::put_last_digits;
-use crate::nanoseconds::{fraction_nanoseconds, put_elapsed};
+use crate::nanoseconds::{fraction_nanoseconds, put_elapsed_seconds};
 use dm_capture::{Resolution, Time};
 use dm_text::put_decimal;
 use std::alloc::AllocError;
@@ -60,8 +62,8 @@ fn put_instant(text: &mut String, time: Time) -> Result<(), AllocError>
     ensures { OnOk result (string_bytes text.new ≡ string_bytes text.old ++ instant_text time) }
 {
     let seconds = seconds_since_1900(time.seconds);
-    if is_time_value(seconds) {
-        put_date_and_time(text, &date_of(seconds))?;
+    if fits_time_value(seconds) {
+        put_date_and_time(text, &utc_of_seconds_since_1900(seconds))?;
         put_fraction(text, time)?;
         text.push_str("Z")
     } else {
@@ -76,7 +78,7 @@ fn put_time_by_clock(text: &mut String, clock: Clock, time: Time) -> Result<(), 
 {
     match clock {
         Clock::Utc => put_instant(text, time),
-        Clock::Since(first) => put_elapsed(text, first, time),
+        Clock::Since(first) => put_elapsed_seconds(text, first, time),
     }
 }
 
@@ -87,7 +89,11 @@ fn put_time_by_clock(text: &mut String, clock: Clock, time: Time) -> Result<(), 
 /// seconds; of a power of two it has nine digits, rounded down. The date is told from 1968-01-20 03:14:08 to
 /// 2104-02-26 09:42:23 UTC, as of a value of type Time (RFC 6733, 4.3.1). Before and behind, the time is told without a
 /// `Z`, as seconds since 1970 with the fraction that counts on from them: -61505153 and a half later is `-61505153.5`.
-pub fn put_time(text: &mut String, clock: Clock, time: Option<Time>) -> Result<(), AllocError>
+pub fn put_time_or_dash(
+    text: &mut String,
+    clock: Clock,
+    time: Option<Time>,
+) -> Result<(), AllocError>
     ensures { OnOk result (string_bytes text.new ≡ string_bytes text.old ++ when_text clock time) }
 {
     match time {

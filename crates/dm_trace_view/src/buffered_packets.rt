@@ -7,13 +7,13 @@ ghost use Rattle.dm_trace_view.specs.Feeds.{ReadsPiece, ReadsNoPiece, FileEnds};
 ghost use Rattle.dm_trace_view.specs.Packets.{TellsHeld, StopsHeld};
 ghost use Rattle.dm_trace_view.specs.Runs.{SaysFile, StopsFile};
 
-use crate::gathered_packets::{Output, gather_held_packets};
+use crate::gathered_packets::{Output, say_and_gather_held_packets};
 use crate::speaker::PacketSpeaker;
-use dm_capture::laws::pieces_join;
+use dm_capture::laws::cuts_change_no_packets;
 use dm_capture::{CaptureFault, CaptureReader};
 use dm_dict::Dictionary;
-use dm_view_lines::laws::gathered_texts;
-use dm_view_lines::{PutFault, RunFault, Style, write_waiting};
+use dm_view_lines::laws::texts_gathered_in_turn_gather_as_one;
+use dm_view_lines::{PutFault, RunFault, Style, write_waiting_text};
 use std::alloc::Global;
 use std::io::{BufRead, Error, ErrorKind, Write};
 
@@ -27,7 +27,7 @@ fn write_waiting_after_fault<W: Write>(
 {
     match fault {
         PutFault::Write(error) => PutFault::Write(error),
-        fault => match write_waiting(&mut output.waits, writer) {
+        fault => match write_waiting_text(&mut output.waits, writer) {
             Ok(()) => fault,
             Err(other) => other,
         },
@@ -36,7 +36,7 @@ fn write_waiting_after_fault<W: Write>(
 
 /// Writes what is said of all whole packets that the capture holds. It answers the fault that stands behind them, or
 /// None.
-fn write_held_packets<S: PacketSpeaker, W: Write>(
+fn say_and_write_held_packets<S: PacketSpeaker, W: Write>(
     alloc: Global,
     dictionary: &Dictionary,
     style: Style,
@@ -56,10 +56,10 @@ fn write_held_packets<S: PacketSpeaker, W: Write>(
         (S.says dictionary.now style.task) capture.old speaker.old fault (W.contents writer.old) []
         (W.contents writer.new) []) }
 {
-    gathered_texts();
-    match gather_held_packets(alloc, dictionary, style, speaker, capture, output, writer) {
+    texts_gathered_in_turn_gather_as_one();
+    match say_and_gather_held_packets(alloc, dictionary, style, speaker, capture, output, writer) {
         Ok(fault) => {
-            write_waiting(&mut output.waits, writer)?;
+            write_waiting_text(&mut output.waits, writer)?;
             Ok(fault)
         }
         Err(fault) => Err(write_waiting_after_fault(fault, output, writer)),
@@ -78,7 +78,10 @@ fn fault_unless_interrupted(error: Error) -> Result<bool, RunFault>
 }
 
 /// Feeds the capture what the reader has at hand. True where the reader is at its end.
-fn feed_piece<R: BufRead>(capture: &mut CaptureReader, reader: &mut R) -> Result<bool, RunFault>
+fn feed_from_reader<R: BufRead>(
+    capture: &mut CaptureReader,
+    reader: &mut R,
+) -> Result<bool, RunFault>
     ensures fed { IfOk result (ReadsPiece capture.old (R.remaining reader.old) capture.new (R.remaining reader.new)) }
     ensures none { IfErr result (λ fault. ReadsNoPiece fault capture.old (R.remaining reader.old) capture.new
         (R.remaining reader.new)) }
@@ -99,7 +102,7 @@ fn feed_piece<R: BufRead>(capture: &mut CaptureReader, reader: &mut R) -> Result
 fn fault_at_end(capture: &CaptureReader) -> Option<CaptureFault>
     ensures { FileEnds capture.now result }
 {
-    match capture.end() {
+    match capture.check_end() {
         Ok(()) => None,
         Err(fault) => Some(fault),
     }
@@ -126,14 +129,16 @@ pub(crate) fn say_packets<S: PacketSpeaker, R: BufRead, W: Write>(
         (S.says dictionary.now style.task) speaker.old fault (R.remaining reader.old) (R.remaining reader.new)
         (W.contents writer.old) (W.contents writer.new)) }
 {
-    pieces_join();
-    gathered_texts();
+    cuts_change_no_packets();
+    texts_gathered_in_turn_gather_as_one();
     for _ in 0..u64::MAX {
-        let fault = write_held_packets(alloc, dictionary, style, speaker, capture, output, writer)?;
+        let fault = say_and_write_held_packets(
+            alloc, dictionary, style, speaker, capture, output, writer,
+        )?;
         if fault.is_some() {
             return Ok(fault);
         }
-        let ended = feed_piece(capture, reader)?;
+        let ended = feed_from_reader(capture, reader)?;
         if ended {
             return Ok(fault_at_end(capture));
         }

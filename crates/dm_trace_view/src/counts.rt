@@ -1,4 +1,4 @@
-//! What a check counts.
+//! What a check counts, and numbers before the words for what they count.
 ghost use Rattle.std.specs.Prelude.{◌≡◌, ◌++◌, OnOk};
 ghost use Rattle.std.specs.Fmt.{decimal};
 ghost use Rattle.std.specs.String.{string_bytes};
@@ -36,25 +36,29 @@ fn message_count(tally: Tally) -> u64
 }
 
 /// Appends a number and what it counts.
-pub(crate) fn put_count(text: &mut String, number: u64, words: &str) -> Result<(), AllocError>
+pub(crate) fn put_number_and_words(
+    text: &mut String,
+    number: u64,
+    words: &str,
+) -> Result<(), AllocError>
     ensures { OnOk result (string_bytes text.new ≡ string_bytes text.old ++ decimal number ++ words.now) }
 {
     put_decimal(text, number)?;
     text.push_str(words)
 }
 
-/// Appends the counts in words.
-fn put_counts_words(text: &mut String, counts: Counts, tally: Tally) -> Result<(), AllocError>
+/// Appends the counts in words, as a line.
+fn put_counts_line(text: &mut String, counts: Counts, tally: Tally) -> Result<(), AllocError>
     ensures { OnOk result (string_bytes text.new ≡ string_bytes text.old ++ counts_words counts tally) }
 {
-    put_count(text, counts.connections, " connections, ")?;
-    put_count(text, message_count(tally), " messages, ")?;
-    put_count(text, tally.good, " good, ")?;
-    put_count(text, tally.bad, " bad, ")?;
-    put_count(text, counts.passed, " octets passed over, ")?;
-    put_count(text, counts.secured, " octets of DTLS, ")?;
-    put_count(text, counts.fragments, " fragments, ")?;
-    put_count(text, counts.cut, " cut packets\n")?;
+    put_number_and_words(text, counts.connections, " connections, ")?;
+    put_number_and_words(text, message_count(tally), " messages, ")?;
+    put_number_and_words(text, tally.good, " good, ")?;
+    put_number_and_words(text, tally.bad, " bad, ")?;
+    put_number_and_words(text, counts.passed, " octets passed over, ")?;
+    put_number_and_words(text, counts.secured, " octets of DTLS, ")?;
+    put_number_and_words(text, counts.fragments, " fragments, ")?;
+    put_number_and_words(text, counts.cut, " cut packets\n")?;
     Ok(())
 }
 
@@ -63,24 +67,28 @@ fn put_count_member(json: &mut JsonText, name: &str, number: u64) -> Result<(), 
     ensures { (more : Members) → OnOk result (json.new ++ members_tokens more
         ≡ json.old ++ members_tokens (member name.now (number_json number) more)) }
 {
-    json.key(name)?;
-    json.number(number)
+    json.put_key(name)?;
+    json.put_number(number)
 }
 
 /// Appends the counts as members, and closes the object.
-fn put_counts_and_close(json: &mut JsonText, counts: Counts, tally: Tally) -> Result<(), AllocError>
+fn put_counts_and_end_object(
+    json: &mut JsonText,
+    counts: Counts,
+    tally: Tally,
+) -> Result<(), AllocError>
     ensures { OnOk result (json.new ≡ json.old ++ members_tokens (counts_members counts tally)) }
 {
     put_count_member(json, "connections", counts.connections)?;
     put_count_member(json, "messages", message_count(tally))?;
     put_count_member(json, "good", tally.good)?;
     put_count_member(json, "bad", tally.bad)?;
-    put_lost_counts_and_close(json, counts)?;
+    put_lost_counts_and_end_object(json, counts)?;
     Ok(())
 }
 
 /// Appends what was lost as members, and closes the object.
-fn put_lost_counts_and_close(json: &mut JsonText, counts: Counts) -> Result<(), AllocError>
+fn put_lost_counts_and_end_object(json: &mut JsonText, counts: Counts) -> Result<(), AllocError>
     ensures { OnOk result (json.new ≡ json.old ++ members_tokens (lost_counts counts)) }
 {
     put_count_member(json, "passed", counts.passed)?;
@@ -92,7 +100,7 @@ fn put_lost_counts_and_close(json: &mut JsonText, counts: Counts) -> Result<(), 
 }
 
 /// Appends the counts as an object on a line of its own.
-fn put_counts_json(
+fn put_json_counts_line(
     alloc: Global,
     text: &mut String,
     counts: Counts,
@@ -102,13 +110,13 @@ fn put_counts_json(
 {
     let mut json = JsonText::new(alloc);
     json.begin_object()?;
-    put_counts_and_close(&mut json, counts, tally)?;
-    json.put_line(text)
+    put_counts_and_end_object(&mut json, counts, tally)?;
+    json.put_line_into(text)
 }
 
 /// Appends the counts where the task is a check, and nothing where it is to show. Where memory is wanted, what is
 /// appended is of no use.
-pub(crate) fn put_counts(
+pub(crate) fn put_counts_if_checked(
     alloc: Global,
     text: &mut String,
     task: Task,
@@ -119,7 +127,7 @@ pub(crate) fn put_counts(
 {
     match task {
         Task::Show | Task::ShowJson => Ok(()),
-        Task::Check => put_counts_words(text, counts, tally),
-        Task::CheckJson => put_counts_json(alloc, text, counts, tally),
+        Task::Check => put_counts_line(text, counts, tally),
+        Task::CheckJson => put_json_counts_line(alloc, text, counts, tally),
     }
 }

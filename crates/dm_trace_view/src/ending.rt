@@ -3,7 +3,7 @@ ghost use Rattle.std.specs.Prelude.{◌≡◌, ◌++◌, OnOk};
 ghost use Rattle.std.specs.String.{string_bytes};
 ghost use Rattle.dm_trace_view.specs.Told.{why_words, file_fault_line, fault_json, fault_text, ending_text};
 
-use crate::counts::{Counts, put_counts};
+use crate::counts::{Counts, put_counts_if_checked};
 use dm_capture::{CaptureFault, FaultKind};
 use dm_text::put_decimal;
 use dm_view::JsonText;
@@ -39,16 +39,20 @@ fn put_fault_line(text: &mut String, fault: CaptureFault) -> Result<(), AllocErr
 }
 
 /// Appends a fault of the file as an object on a line of its own.
-fn put_fault_json(alloc: Global, text: &mut String, fault: CaptureFault) -> Result<(), AllocError>
+fn put_json_fault_line(
+    alloc: Global,
+    text: &mut String,
+    fault: CaptureFault,
+) -> Result<(), AllocError>
     ensures { OnOk result (string_bytes text.new ≡ string_bytes text.old ++ fault_json fault) }
 {
     let mut json = JsonText::new(alloc);
     json.begin_object()?;
-    json.key("octet")?;
-    json.number(fault.offset)?;
-    json.text_member("error", fault_words(fault.kind))?;
+    json.put_key("octet")?;
+    json.put_number(fault.offset)?;
+    json.put_text_member("error", fault_words(fault.kind))?;
     json.end_object()?;
-    json.put_line(text)
+    json.put_line_into(text)
 }
 
 /// Appends a fault of the file.
@@ -62,13 +66,13 @@ fn put_file_fault(
 {
     match task {
         Task::Show | Task::Check => put_fault_line(text, fault),
-        Task::ShowJson | Task::CheckJson => put_fault_json(alloc, text, fault),
+        Task::ShowJson | Task::CheckJson => put_json_fault_line(alloc, text, fault),
     }
 }
 
 /// Appends what ends the text of a capture: the fault up to which it was read, if there is one, and under a check the
 /// counts. Where memory is wanted, what is appended is of no use.
-pub(crate) fn put_ending(
+pub(crate) fn put_fault_and_counts(
     alloc: Global,
     text: &mut String,
     task: Task,
@@ -81,5 +85,5 @@ pub(crate) fn put_ending(
     if let Some(fault) = fault {
         put_file_fault(alloc, text, task, fault)?;
     }
-    put_counts(alloc, text, task, counts, tally)
+    put_counts_if_checked(alloc, text, task, counts, tally)
 }

@@ -12,7 +12,7 @@ ghost use Rattle.dm_trace_view.specs.Filters.{tells_command, says_all, PassesFil
 
 use dm_dict::{Dictionary, Judged};
 use dm_wire::codes::avps::{DESTINATION_HOST, ORIGIN_HOST, SESSION_ID};
-use dm_wire::laws::spelled_are_members;
+use dm_wire::laws::spelled_avps_are_members;
 use dm_wire::{AvpRef, AvpsRef, Header, MessageRef};
 
 /// A command that is asked for.
@@ -52,7 +52,7 @@ fn is_same_host(one: &[u8], other: &[u8]) -> bool
 }
 
 /// Whether an AVP has this code, and no vendor.
-fn has_code(avp: AvpRef<'_>, code: u32) -> bool
+fn has_code_without_vendor(avp: AvpRef<'_>, code: u32) -> bool
     ensures { result ≡ is_of code None (avp_of avp.entry) }
 {
     avp.code == code && avp.vendor.is_none()
@@ -64,10 +64,11 @@ fn avp_says(avp: AvpRef<'_>, asked: Asked<'_>) -> bool
 {
     match asked {
         Asked::Host(host) => {
-            (has_code(avp, ORIGIN_HOST) || has_code(avp, DESTINATION_HOST))
+            (has_code_without_vendor(avp, ORIGIN_HOST)
+                || has_code_without_vendor(avp, DESTINATION_HOST))
                 && is_same_host(avp.bytes, host)
         }
-        Asked::Session(session) => has_code(avp, SESSION_ID) && avp.bytes == session,
+        Asked::Session(session) => has_code_without_vendor(avp, SESSION_ID) && avp.bytes == session,
     }
 }
 
@@ -86,11 +87,11 @@ fn any_avp_says(list: AvpsRef<'_>, asked: Asked<'_>) -> bool
 }
 
 /// Whether a message says the host that is asked for; where none is, each message does.
-fn says_host(message: &MessageRef<'_>, host: Option<&[u8]>) -> bool
+fn says_host_if_asked(message: &MessageRef<'_>, host: Option<&[u8]>) -> bool
     ensures { (l : List Avp) → SpellsList l message.now.rest.now → result
         ≡ says_peer host.entry (record { header = message.now.header; avps = l }) }
 {
-    spelled_are_members();
+    spelled_avps_are_members();
     match host {
         Some(host) => any_avp_says(AvpsRef::Spelled(message.rest), Asked::Host(host)),
         None => true,
@@ -98,11 +99,11 @@ fn says_host(message: &MessageRef<'_>, host: Option<&[u8]>) -> bool
 }
 
 /// Whether a message says the Session-Id that is asked for; where none is, each message does.
-fn says_session(message: &MessageRef<'_>, session: Option<&[u8]>) -> bool
+fn says_session_if_asked(message: &MessageRef<'_>, session: Option<&[u8]>) -> bool
     ensures { (l : List Avp) → SpellsList l message.now.rest.now → result
         ≡ tells_session session.entry (record { header = message.now.header; avps = l }) }
 {
-    spelled_are_members();
+    spelled_avps_are_members();
     match session {
         Some(session) => any_avp_says(AvpsRef::Spelled(message.rest), Asked::Session(session)),
         None => true,
@@ -120,7 +121,11 @@ fn is_command_named(dictionary: &Dictionary, header: &Header, name: &[u8]) -> bo
 }
 
 /// Whether the command of a header is the one that is asked for; where none is, each is.
-fn says_command(dictionary: &Dictionary, header: &Header, wanted: Option<Wanted<'_>>) -> bool
+fn says_command_if_asked(
+    dictionary: &Dictionary,
+    header: &Header,
+    wanted: Option<Wanted<'_>>,
+) -> bool
     ensures { result ≡ tells_command dictionary.now wanted.entry header.now }
 {
     match wanted {
@@ -131,7 +136,7 @@ fn says_command(dictionary: &Dictionary, header: &Header, wanted: Option<Wanted<
 }
 
 /// Whether something is wrong with a message.
-fn is_bad(dictionary: &Dictionary, message: &MessageRef<'_>) -> bool
+fn is_bad_message(dictionary: &Dictionary, message: &MessageRef<'_>) -> bool
     ensures { (l : List Avp) → SpellsList l message.now.rest.now → result
         ≡ not (has_none (faults dictionary.now (record { header = message.now.header; avps = l }))) }
 {
@@ -147,15 +152,15 @@ fn message_passes_filter(
     ensures { (l : List Avp) → SpellsList l message.now.rest.now → result
         ≡ says_all filter.entry dictionary.now (record { header = message.now.header; avps = l }) }
 {
-    says_host(message, filter.host)
-        && says_session(message, filter.session)
-        && says_command(dictionary, &message.header, filter.command)
-        && (!filter.bad || is_bad(dictionary, message))
+    says_host_if_asked(message, filter.host)
+        && says_session_if_asked(message, filter.session)
+        && says_command_if_asked(dictionary, &message.header, filter.command)
+        && (!filter.bad || is_bad_message(dictionary, message))
 }
 
 /// Whether these octets pass the filter: a message that says all that is asked for, or octets that are none, where no
 /// host, session or command is asked for. It never answers want of memory.
-pub(crate) fn passes_filter(filter: Filter<'_>, dictionary: &Dictionary, octets: &[u8]) -> bool
+pub(crate) fn octets_pass_filter(filter: Filter<'_>, dictionary: &Dictionary, octets: &[u8]) -> bool
     ensures { PassesFilter filter.entry dictionary.now octets.now result }
 {
     match MessageRef::read(octets) {

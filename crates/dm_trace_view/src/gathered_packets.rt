@@ -6,11 +6,11 @@ ghost use Rattle.dm_view_lines.specs.Colours.{styled};
 ghost use Rattle.dm_trace_view.specs.Packets.{TellsPackets, StopsPackets, TellsHeld, StopsHeld};
 
 use crate::speaker::PacketSpeaker;
-use dm_capture::laws::pieces_join;
+use dm_capture::laws::cuts_change_no_packets;
 use dm_capture::{CaptureFault, CaptureReader, FaultKind, Packet};
 use dm_dict::Dictionary;
-use dm_view_lines::laws::gathered_texts;
-use dm_view_lines::{PutFault, Style, push_text};
+use dm_view_lines::laws::texts_gathered_in_turn_gather_as_one;
+use dm_view_lines::{PutFault, Style, gather_or_write_text};
 use std::alloc::Global;
 use std::io::Write;
 
@@ -22,7 +22,7 @@ pub(crate) struct Output {
 }
 
 /// Puts what is said of a packet behind the text that waits to be written.
-fn gather_packet<S: PacketSpeaker, W: Write>(
+fn say_and_gather_packet<S: PacketSpeaker, W: Write>(
     alloc: Global,
     dictionary: &Dictionary,
     style: Style,
@@ -40,7 +40,7 @@ fn gather_packet<S: PacketSpeaker, W: Write>(
 {
     output.text.clear();
     speaker.say_packet(alloc, dictionary, style.task, packet, &mut output.text)?;
-    push_text(
+    gather_or_write_text(
         alloc,
         style,
         output.text.as_bytes(),
@@ -52,7 +52,7 @@ fn gather_packet<S: PacketSpeaker, W: Write>(
 
 /// Puts what is said of all whole packets that the capture holds behind the text that waits to be written. It answers
 /// the fault that stands behind them, or None.
-pub(crate) fn gather_held_packets<S: PacketSpeaker, W: Write>(
+pub(crate) fn say_and_gather_held_packets<S: PacketSpeaker, W: Write>(
     alloc: Global,
     dictionary: &Dictionary,
     style: Style,
@@ -70,12 +70,14 @@ pub(crate) fn gather_held_packets<S: PacketSpeaker, W: Write>(
         (S.says dictionary.now style.task) capture.old speaker.old fault (W.contents writer.old)
         output.old.waits.items (W.contents writer.new) output.new.waits.items) }
 {
-    pieces_join();
-    gathered_texts();
+    cuts_change_no_packets();
+    texts_gathered_in_turn_gather_as_one();
     for _ in 0..u64::MAX {
         match capture.next() {
             Ok(Some(packet)) => {
-                let put = gather_packet(alloc, dictionary, style, speaker, &packet, output, writer);
+                let put = say_and_gather_packet(
+                    alloc, dictionary, style, speaker, &packet, output, writer,
+                );
                 drop(packet);
                 put?;
             }

@@ -1,16 +1,16 @@
-//! The messages that are handed out in one direction, each said in turn.
+//! The messages that are handed out in one direction, each said and counted in turn.
 ghost use Rattle.std.specs.Prelude.{◌≡◌, ◌++◌, ℕ, List, Some, IfOk, IfSome};
 ghost use Rattle.std.specs.String.{string_bytes};
 ghost use Rattle.dm_view_lines.specs.Counts.{tallied, tally_of};
 ghost use Rattle.dm_trace_view.specs.Handed.{SaysOne, SaysHanded};
 ghost use Rattle.dm_trace_view.specs.Talks.{talk_of};
 
-use crate::filter::{Filter, passes_filter};
+use crate::filter::{Filter, octets_pass_filter};
 use crate::seen_front::SeenFront;
 use dm_connections::{Connections, Ends, TwoWay};
 use dm_dict::{Dictionary, NoMemory};
 use dm_trace::{Clock, Seen};
-use dm_view_lines::{Tally, Task, put_octets};
+use dm_view_lines::{Tally, Task, put_octets_report};
 use std::alloc::Global;
 
 /// One direction of a connection: how the time of its messages is said, where they are seen, and who sends them.
@@ -56,7 +56,11 @@ fn tally_with_one_more(tally: Tally, good: bool) -> Option<Tally>
 
 /// What was counted, with `messages` handed out and one more of them said, good or bad; an Err where it is beyond what
 /// can be counted.
-fn with_said_message(before: Numbered, messages: u64, good: bool) -> Result<Numbered, NoMemory>
+fn numbered_with_said_message(
+    before: Numbered,
+    messages: u64,
+    good: bool,
+) -> Result<Numbered, NoMemory>
     ensures { IfOk result (λ after. after
         ≡ record before { messages = messages; tally = tallied before.tally (tally_of (Some good)) }) }
 {
@@ -68,7 +72,7 @@ fn with_said_message(before: Numbered, messages: u64, good: bool) -> Result<Numb
 
 /// Numbers a message behind those that were handed out; where it passes the filter, appends what is said of it, and
 /// counts it as good or bad.
-fn put_numbered_message(
+fn count_message_and_put_if_passing(
     alloc: Global,
     text: &mut String,
     dictionary: &Dictionary,
@@ -83,7 +87,7 @@ fn put_numbered_message(
     let Some(number) = before.messages.checked_add(1) else {
         return Err(NoMemory);
     };
-    if !passes_filter(saying.filter, dictionary, message) {
+    if !octets_pass_filter(saying.filter, dictionary, message) {
         return Ok(Numbered {
             messages: number,
             tally: before.tally,
@@ -94,13 +98,13 @@ fn put_numbered_message(
         clock: direction.clock,
         seen: direction.seen,
     };
-    let good = put_octets(alloc, text, dictionary, saying.task, &front, message)?;
-    with_said_message(before, number, good)
+    let good = put_octets_report(alloc, text, dictionary, saying.task, &front, message)?;
+    numbered_with_said_message(before, number, good)
 }
 
 /// Hands out the whole messages of one direction and numbers them; appends what is said of those that pass the filter,
 /// and counts them as good or bad.
-pub(crate) fn put_handed_messages<C: TwoWay>(
+pub(crate) fn hand_out_and_put_messages<C: TwoWay>(
     alloc: Global,
     text: &mut String,
     dictionary: &Dictionary,
@@ -117,11 +121,11 @@ pub(crate) fn put_handed_messages<C: TwoWay>(
 {
     let mut so_far = before;
     for _ in 0..u64::MAX {
-        let handed = connections.next(direction.ends, direction.from_first)?;
+        let handed = connections.next_message_of(direction.ends, direction.from_first)?;
         let Some(message) = handed else {
             return Ok(so_far);
         };
-        let said = put_numbered_message(
+        let said = count_message_and_put_if_passing(
             alloc,
             text,
             dictionary,

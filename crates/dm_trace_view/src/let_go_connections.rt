@@ -1,8 +1,9 @@
-//! Connections that are let go, since too many are held, or too much.
+//! Connections that are let go: since too many are held, or too much, or at the end of the capture.
 ghost use Rattle.std.specs.Prelude.{◌≡◌, ◌++◌, ℕ, List, IfOk, OnOk};
 ghost use Rattle.std.specs.String.{string_bytes};
 ghost use Rattle.dm_connections.specs.declared.ends.Ends.{Ends};
-ghost use Rattle.dm_trace_view.specs.Traces.{LetsGo, gone_text};
+ghost use Rattle.dm_connections.specs.Held.{all_octets};
+ghost use Rattle.dm_trace_view.specs.Traces.{LetsGo, gone_text, more_of};
 
 use crate::lost::{Lost, LostIn, put_lost};
 use crate::packet_context::Hearing;
@@ -12,7 +13,7 @@ use dm_view_lines::Task;
 use std::alloc::{AllocError, Global};
 
 /// Appends that a connection was let go.
-fn put_let_go<C: TwoWay>(
+fn put_let_go_connection<C: TwoWay>(
     alloc: Global,
     text: &mut String,
     task: Task,
@@ -31,8 +32,9 @@ fn put_let_go<C: TwoWay>(
     put_lost(alloc, text, task, told)
 }
 
-/// Lets connections go as long as more is held than may be, tells each, and counts their octets as passed over.
-pub(crate) fn let_go_past_limits<C: TwoWay>(
+/// Lets connections go as long as more is held than may be, appends that of each, and counts their octets as passed
+/// over.
+pub(crate) fn let_go_and_put_excess_connections<C: TwoWay>(
     alloc: Global,
     text: &mut String,
     hearing: Hearing<'_>,
@@ -45,14 +47,26 @@ pub(crate) fn let_go_past_limits<C: TwoWay>(
         connections.old passed gone connections.new counted more) }
 {
     let mut so_far = passed;
-    while connections.is_past(hearing.looks.limits) {
-        let Some(gone) = connections.let_go() else {
+    while connections.exceeds(hearing.looks.limits) {
+        let Some(gone) = connections.let_idlest_go() else {
             return Ok(so_far);
         };
-        let told = put_let_go(alloc, text, hearing.task, hearing.packet, &gone);
+        let told = put_let_go_connection(alloc, text, hearing.task, hearing.packet, &gone);
         so_far = so_far.saturating_add(gone.connection.octets_pending());
         drop(gone);
         told?;
     }
     Ok(so_far)
+}
+
+/// Lets all connections go, and counts the octets of them that came and weren't handed out, on top of so many.
+pub(crate) fn let_all_go_and_count<C: TwoWay>(connections: &mut Connections<C>, counted: u64) -> u64
+    ensures { result ≡ more_of counted (all_octets C.pending_in connections.old.held) }
+{
+    let mut so_far = counted;
+    while let Some(gone) = connections.let_idlest_go() {
+        so_far = so_far.saturating_add(gone.connection.octets_pending());
+        drop(gone);
+    }
+    so_far
 }

@@ -8,7 +8,7 @@ ghost use Rattle.dm_trace.specs.Fronts.{ends_text};
 ghost use Rattle.dm_view.specs.JsonWords.{number_json};
 ghost use Rattle.dm_trace_view.specs.Told.{lost_words, lost_member, lost_line, lost_json, lost_text};
 
-use crate::counts::put_count;
+use crate::counts::put_number_and_words;
 use dm_flows::Endpoint;
 use dm_text::put_decimal;
 use dm_trace::put_endpoint;
@@ -38,7 +38,7 @@ pub struct LostIn {
 }
 
 /// Appends two ends: ` FROM > TO`.
-fn put_two_ends(text: &mut String, from: Endpoint, to: Endpoint) -> Result<(), AllocError>
+fn put_from_and_to(text: &mut String, from: Endpoint, to: Endpoint) -> Result<(), AllocError>
     ensures { OnOk result (string_bytes text.new ≡ string_bytes text.old ++ ends_text from to) }
 {
     text.push_str(" ")?;
@@ -53,15 +53,15 @@ fn put_lost_words(text: &mut String, lost: Lost) -> Result<(), AllocError>
     ensures { OnOk result (string_bytes text.new ≡ string_bytes text.old ++ lost_words lost) }
 {
     match lost {
-        Lost::Passed(octets) => put_count(text, octets, " octets passed over"),
+        Lost::Passed(octets) => put_number_and_words(text, octets, " octets passed over"),
         Lost::Secured(octets) => {
             text.push_str("DTLS begins, ")?;
-            put_count(text, octets, " octets unread")?;
+            put_number_and_words(text, octets, " octets unread")?;
             Ok(())
         }
         Lost::LetGo(octets) => {
             text.push_str("connection let go, ")?;
-            put_count(text, octets, " octets held")?;
+            put_number_and_words(text, octets, " octets held")?;
             Ok(())
         }
     }
@@ -73,14 +73,14 @@ fn put_lost_line(text: &mut String, told: LostIn) -> Result<(), AllocError>
 {
     text.push_str("packet ")?;
     put_decimal(text, told.packet)?;
-    put_two_ends(text, told.from, told.to)?;
+    put_from_and_to(text, told.from, told.to)?;
     text.push_str(": ")?;
     put_lost_words(text, told.lost)?;
     text.push_str("\n")
 }
 
 /// Appends an end of a connection as a member under this key.
-fn put_end_member(
+fn put_endpoint_member(
     json: &mut JsonText,
     room: &mut String,
     name: &str,
@@ -91,25 +91,25 @@ fn put_end_member(
 {
     room.clear();
     put_endpoint(room, end)?;
-    json.text_member(name, room.as_str())
+    json.put_text_member(name, room.as_str())
 }
 
 /// Appends what was lost as a member, and closes the object.
-fn put_lost_and_close(json: &mut JsonText, lost: Lost) -> Result<(), AllocError>
+fn put_lost_and_end_object(json: &mut JsonText, lost: Lost) -> Result<(), AllocError>
     ensures { OnOk result (json.new ≡ json.old ++ members_tokens (lost_member lost)) }
 {
     match lost {
         Lost::Passed(octets) => {
-            json.key("passed")?;
-            json.number(octets)?;
+            json.put_key("passed")?;
+            json.put_number(octets)?;
         }
         Lost::Secured(octets) => {
-            json.key("secured")?;
-            json.number(octets)?;
+            json.put_key("secured")?;
+            json.put_number(octets)?;
         }
         Lost::LetGo(octets) => {
-            json.key("let_go")?;
-            json.number(octets)?;
+            json.put_key("let_go")?;
+            json.put_number(octets)?;
         }
     }
     json.end_object()
@@ -123,22 +123,22 @@ fn put_lost_object(json: &mut JsonText, room: &mut String, told: LostIn) -> Resu
         (member (codes "to") (string (endpoint_text told.to)) (lost_member told.lost)))))) }
 {
     json.begin_object()?;
-    json.key("packet")?;
-    json.number(told.packet)?;
-    put_end_member(json, room, "from", told.from)?;
-    put_end_member(json, room, "to", told.to)?;
-    put_lost_and_close(json, told.lost)?;
+    json.put_key("packet")?;
+    json.put_number(told.packet)?;
+    put_endpoint_member(json, room, "from", told.from)?;
+    put_endpoint_member(json, room, "to", told.to)?;
+    put_lost_and_end_object(json, told.lost)?;
     Ok(())
 }
 
 /// Appends an object on a line of its own that tells what was lost.
-fn put_lost_json(alloc: Global, text: &mut String, told: LostIn) -> Result<(), AllocError>
+fn put_json_lost_line(alloc: Global, text: &mut String, told: LostIn) -> Result<(), AllocError>
     ensures { OnOk result (string_bytes text.new ≡ string_bytes text.old ++ lost_json told) }
 {
     let mut room = String::new(alloc);
     let mut json = JsonText::new(alloc);
     put_lost_object(&mut json, &mut room, told)?;
-    json.put_line(text)
+    json.put_line_into(text)
 }
 
 /// Appends what was lost. Where memory is wanted, what is appended is of no use.
@@ -152,6 +152,6 @@ pub fn put_lost(
 {
     match task {
         Task::Show | Task::Check => put_lost_line(text, told),
-        Task::ShowJson | Task::CheckJson => put_lost_json(alloc, text, told),
+        Task::ShowJson | Task::CheckJson => put_json_lost_line(alloc, text, told),
     }
 }

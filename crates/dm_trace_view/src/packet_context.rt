@@ -39,7 +39,7 @@ fn is_same_end(one: Endpoint, other: Endpoint) -> bool
 
 impl<'a> Hearing<'a> {
     /// The task and the filter: what is said of messages, and of which.
-    pub(crate) fn saying(self) -> Saying<'a>
+    pub(crate) fn task_and_filter(self) -> Saying<'a>
         ensures { result ≡ record { task = self.entry.task; filter = self.entry.looks.filter } }
     {
         Saying {
@@ -50,7 +50,7 @@ impl<'a> Hearing<'a> {
 
     /// When, between whom and in which packet a message is seen that is sent from the first of these ends to the
     /// second.
-    fn seen(self, between: Ends) -> Seen
+    fn seen_between(self, between: Ends) -> Seen
         ensures { result ≡ seen_by self.entry between }
     {
         Seen {
@@ -64,12 +64,12 @@ impl<'a> Hearing<'a> {
 
     /// The direction of what is sent from the first of the ends `between` to the second, on the connection held by
     /// `ends`.
-    pub(crate) fn direction(self, between: Ends, ends: Ends) -> Direction
+    pub(crate) fn direction_between(self, between: Ends, ends: Ends) -> Direction
         ensures { result ≡ direction_by self.entry between ends }
     {
         Direction {
             clock: self.clock,
-            seen: self.seen(between),
+            seen: self.seen_between(between),
             ends,
             from_first: is_same_end(between.first, ends.first),
         }

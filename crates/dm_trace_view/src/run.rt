@@ -1,88 +1,41 @@
-//! A run over a capture: what is said of its packets is written as they come.
+//! A run over a capture: what is said of its packets is written as they come, and then what ends it.
 ghost use Rattle.std.specs.Prelude.{◌≡◌, IfOk, IfErr, IfSome, OnOk};
 ghost use Rattle.std.specs.Io.KnownBytes.{Appends};
 ghost use Rattle.dm_view_lines.specs.Colours.{styled};
 ghost use Rattle.dm_view_lines.specs.Ending.{FailsAtEnd};
 ghost use Rattle.dm_view_lines.specs.Faults.{run_fault};
-ghost use Rattle.dm_trace_view.specs.Captures.{trace_begun, SaysCapture, StopsCapture, is_all_good, counts_behind};
-ghost use Rattle.dm_connections.specs.Held.{all_octets};
+ghost use Rattle.dm_trace_view.specs.Captures.{SaysCapture, StopsCapture, is_all_good, counts_behind};
 ghost use Rattle.dm_trace_view.specs.Told.{ending_text};
-ghost use Rattle.dm_trace_view.specs.Traces.{more_of};
 
 use crate::buffered_packets::say_packets;
 use crate::counts::Counts;
-use crate::ending::put_ending;
+use crate::ending::put_fault_and_counts;
 use crate::gathered_packets::Output;
-use crate::handed_messages::Numbered;
+use crate::let_go_connections::let_all_go_and_count;
 use crate::looks::Looks;
-use crate::packet_context::Reckoned;
-use crate::trace_speaker::TraceSpeaker;
-use dm_associations::Associations;
+use crate::trace_speaker::{TraceSpeaker, new_trace_speaker};
 use dm_capture::{CaptureFault, CaptureReader};
-use dm_connections::{Connections, TwoWay};
 use dm_dict::Dictionary;
-use dm_view_lines::laws::gathered_texts;
-use dm_view_lines::{PutFault, RunFault, Style, Tally, write_end};
-use dm_wire::codes::limits::MAX_MESSAGE_LEN;
-use std::alloc::{AllocError, Global};
+use dm_view_lines::laws::texts_gathered_in_turn_gather_as_one;
+use dm_view_lines::{PutFault, RunFault, Style, Tally, write_text_in_style};
+use std::alloc::Global;
 use std::hash::RandomState;
 use std::io::{BufRead, Write};
 
-/// A speaker that saw nothing yet.
-fn new_trace_speaker<'a>(
-    alloc: Global,
-    keys: RandomState,
-    looks: Looks<'a>,
-) -> Result<TraceSpeaker<'a>, AllocError>
-    ensures { IfOk result (λ speaker. speaker ≡ trace_begun looks.entry) }
-{
-    Ok(TraceSpeaker {
-        connections: Connections::new(alloc, keys, MAX_MESSAGE_LEN)?,
-        associations: Associations::new(alloc, keys, MAX_MESSAGE_LEN)?,
-        looks,
-        first: None,
-        reckoned: Reckoned {
-            numbered: Numbered {
-                messages: 0,
-                tally: Tally { good: 0, bad: 0 },
-            },
-            counts: Counts {
-                connections: 0,
-                passed: 0,
-                secured: 0,
-                fragments: 0,
-                cut: 0,
-            },
-        },
-    })
-}
-
-/// Lets all connections go, and counts the octets of them that came and weren't handed out, on top of so many.
-fn let_all_go<C: TwoWay>(connections: &mut Connections<C>, counted: u64) -> u64
-    ensures { result ≡ more_of counted (all_octets C.pending_in connections.old.held) }
-{
-    let mut so_far = counted;
-    while let Some(gone) = connections.let_go() {
-        so_far = so_far.saturating_add(gone.connection.octets_pending());
-        drop(gone);
-    }
-    so_far
-}
-
 /// What was counted, with the octets as passed over that came and weren't handed out. It lets all connections go.
-fn take_final_counts(speaker: &mut TraceSpeaker<'_>) -> Counts
+fn let_all_go_and_take_counts(speaker: &mut TraceSpeaker<'_>) -> Counts
     ensures { result ≡ counts_behind speaker.old }
 {
     let counts = speaker.reckoned.counts;
-    let passed = let_all_go(&mut speaker.connections, counts.passed);
+    let passed = let_all_go_and_count(&mut speaker.connections, counts.passed);
     Counts {
-        passed: let_all_go(&mut speaker.associations, passed),
+        passed: let_all_go_and_count(&mut speaker.associations, passed),
         ..counts
     }
 }
 
 /// Writes what ends the text of a capture: its fault, if it has one, and what a check counts.
-fn write_ending<W: Write>(
+fn write_fault_and_counts<W: Write>(
     alloc: Global,
     style: Style,
     fault: Option<CaptureFault>,
@@ -96,8 +49,8 @@ fn write_ending<W: Write>(
         (styled style.coloured style.task (ending_text style.task fault counts tally))) }
 {
     let mut text = String::new(alloc);
-    put_ending(alloc, &mut text, style.task, fault, counts, tally)?;
-    write_end(alloc, style, text.as_bytes(), writer)
+    put_fault_and_counts(alloc, &mut text, style.task, fault, counts, tally)?;
+    write_text_in_style(alloc, style, text.as_bytes(), writer)
 }
 
 /// Writes what is said of the Diameter messages of a capture (pcap or pcapng) that a reader gives, as they come, with
@@ -123,7 +76,7 @@ pub fn say_capture<R: BufRead, W: Write>(
     ensures stopped { IfErr result (λ why. StopsCapture dictionary.now style looks.entry why (R.remaining reader.old)
         (R.remaining reader.new) (W.contents writer.old) (W.contents writer.new)) }
 {
-    gathered_texts();
+    texts_gathered_in_turn_gather_as_one();
     let mut speaker = match new_trace_speaker(alloc, keys, looks) {
         Ok(speaker) => speaker,
         Err(_) => return Err(RunFault::Memory),
@@ -144,18 +97,18 @@ pub fn say_capture<R: BufRead, W: Write>(
         writer,
     );
     let tally = speaker.reckoned.numbered.tally;
-    let counts = take_final_counts(&mut speaker);
+    let counts = let_all_go_and_take_counts(&mut speaker);
     drop(speaker);
     drop(capture);
     drop(output);
     match said {
-        Ok(fault) => end_capture(alloc, style, fault, counts, tally, writer),
+        Ok(fault) => write_ending_of_capture(alloc, style, fault, counts, tally, writer),
         Err(why) => Err(why),
     }
 }
 
 /// Writes what ends the text of a capture, and answers true where the file has no fault and no message is bad.
-fn end_capture<W: Write>(
+fn write_ending_of_capture<W: Write>(
     alloc: Global,
     style: Style,
     fault: Option<CaptureFault>,
@@ -169,7 +122,7 @@ fn end_capture<W: Write>(
     ensures stopped { IfErr result (λ why. FailsAtEnd why (W.contents writer.old) (W.contents writer.new)
         (styled style.coloured style.task (ending_text style.task fault counts tally))) }
 {
-    match write_ending(alloc, style, fault, counts, tally, writer) {
+    match write_fault_and_counts(alloc, style, fault, counts, tally, writer) {
         Ok(()) => Ok(fault.is_none() && tally.bad == 0),
         Err(why) => Err(RunFault::from(why)),
     }

@@ -1,7 +1,7 @@
 //! What stands before what is said of a message that was seen.
 
 use dm_text::put_decimal;
-use dm_trace::{Clock, Seen, put_front, put_json_front};
+use dm_trace::{Clock, Seen, put_seen, put_seen_members};
 use dm_view::JsonText;
 use dm_view_lines::Front;
 use std::alloc::{AllocError, Global};
@@ -23,18 +23,18 @@ impl Front for SeenFront {
 
     ghost before = { λ front. front_seen front.number front.clock front.seen };
 
-    fn put_words(&self, text: &mut String) -> Result<(), AllocError> {
+    fn put_front_words(&self, text: &mut String) -> Result<(), AllocError> {
         put_decimal(text, self.number)?;
         text.push_str(": ")?;
-        put_front(text, self.clock, &self.seen)?;
+        put_seen(text, self.clock, &self.seen)?;
         text.push_str("\n")
     }
 
-    fn put_members(&self, alloc: Global, json: &mut JsonText) -> Result<(), AllocError> {
+    fn put_front_members(&self, alloc: Global, json: &mut JsonText) -> Result<(), AllocError> {
         let mut room = String::new(alloc);
-        json.key("number")?;
-        json.number(self.number)?;
-        put_json_front(json, &mut room, self.clock, &self.seen)?;
+        json.put_key("number")?;
+        json.put_number(self.number)?;
+        put_seen_members(json, &mut room, self.clock, &self.seen)?;
         Ok(())
     }
 }

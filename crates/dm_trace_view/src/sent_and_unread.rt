@@ -6,8 +6,8 @@ ghost use Rattle.dm_trace_view.specs.Traces.{counted_sent, with_unread, unread_i
 ghost use Rattle.dm_trace_view.specs.Traces.{lost_between, passed_text, secured_text, unread_text, SaysSent};
 
 use crate::counts::Counts;
-use crate::handed_messages::put_handed_messages;
-use crate::let_go_connections::let_go_past_limits;
+use crate::handed_messages::hand_out_and_put_messages;
+use crate::let_go_connections::let_go_and_put_excess_connections;
 use crate::lost::{Lost, LostIn, put_lost};
 use crate::packet_context::{Hearing, Reckoned};
 use dm_connections::{Connections, Ends, Takes, TwoWay};
@@ -29,7 +29,7 @@ const NONE_UNREAD: Unread = Unread {
 
 impl Unread {
     /// How many octets more aren't read than before, of either kind.
-    fn since(self, before: Unread) -> Unread
+    fn unread_since(self, before: Unread) -> Unread
         ensures { result ≡ unread_since before self }
     {
         Unread {
@@ -51,7 +51,7 @@ fn counts_with_unread(counts: Counts, unread: Unread) -> Counts
 }
 
 /// The counts with these octets more that aren't read, and one connection more where none was held.
-fn counts_with_sent(counts: Counts, held: Option<Ends>, unread: Unread) -> Counts
+fn counts_with_connection_and_unread(counts: Counts, held: Option<Ends>, unread: Unread) -> Counts
     ensures { result ≡ counted_sent held unread counts }
 {
     let counts = counts_with_unread(counts, unread);
@@ -65,12 +65,12 @@ fn counts_with_sent(counts: Counts, held: Option<Ends>, unread: Unread) -> Count
 }
 
 /// How many octets of a connection aren't read so far; none of one that isn't there.
-fn unread_of<C: TwoWay>(connection: Option<&C>) -> Unread
+fn unread_octets_of<C: TwoWay>(connection: Option<&C>) -> Unread
     ensures { result ≡ unread_in C.passed_in C.secured_in (option_copied connection.entry) }
 {
     match connection {
         Some(connection) => Unread {
-            passed: connection.octets_passed(),
+            passed: connection.octets_passed_over(),
             secured: connection.octets_secured(),
         },
         None => NONE_UNREAD,
@@ -78,11 +78,11 @@ fn unread_of<C: TwoWay>(connection: Option<&C>) -> Unread
 }
 
 /// How many octets of a connection aren't read so far; none of one that isn't held.
-fn unread_so_far<C: TwoWay>(connections: &Connections<C>, held: Option<Ends>) -> Unread
+fn unread_octets_of_held<C: TwoWay>(connections: &Connections<C>, held: Option<Ends>) -> Unread
     ensures { result ≡ unread_before C.passed_in C.secured_in connections.now.held held }
 {
     match held {
-        Some(ends) => unread_of(connections.get(ends)),
+        Some(ends) => unread_octets_of(connections.get(ends)),
         None => NONE_UNREAD,
     }
 }
@@ -107,7 +107,7 @@ fn put_lost_between(
 }
 
 /// Appends how many octets were passed over from `before` to `after`, where some were.
-fn put_passed(
+fn put_octets_passed_over_if_any(
     alloc: Global,
     text: &mut String,
     hearing: Hearing<'_>,
@@ -125,7 +125,7 @@ fn put_passed(
 }
 
 /// Appends how many octets of Diameter over DTLS came, where they are the first of their connection.
-fn put_first_secured(
+fn put_secured_octets_if_first(
     alloc: Global,
     text: &mut String,
     hearing: Hearing<'_>,
@@ -143,7 +143,7 @@ fn put_first_secured(
 }
 
 /// Appends how many octets were passed over from `before` to `after`, and the first ones of Diameter over DTLS.
-fn put_unread(
+fn put_unread_octets(
     alloc: Global,
     text: &mut String,
     hearing: Hearing<'_>,
@@ -154,14 +154,14 @@ fn put_unread(
     ensures { OnOk result (string_bytes text.new
         ≡ string_bytes text.old ++ unread_text hearing.entry between before after) }
 {
-    put_passed(alloc, text, hearing, between, before.passed, after.passed)?;
-    put_first_secured(alloc, text, hearing, between, before.secured, after.secured)?;
+    put_octets_passed_over_if_any(alloc, text, hearing, between, before.passed, after.passed)?;
+    put_secured_octets_if_first(alloc, text, hearing, between, before.secured, after.secured)?;
     Ok(())
 }
 
 /// Gives what is sent to its connection, where that is looked at, and says the messages that it hands out then, and
 /// what is lost.
-pub(crate) fn say_sent<S: Copy, C: Takes<S>>(
+pub(crate) fn take_and_say_sent<S: Copy, C: Takes<S>>(
     alloc: Global,
     text: &mut String,
     dictionary: &Dictionary,
@@ -177,14 +177,14 @@ pub(crate) fn say_sent<S: Copy, C: Takes<S>>(
         connections.old before connections.new after more) }
 {
     let between = C::ends_of(sent);
-    let held = connections.find(between.first, between.second);
-    let ago = unread_so_far(connections, held);
-    let Some(ends) = connections.take(hearing.looks.choice, sent)? else {
+    let held = connections.find_ends(between.first, between.second);
+    let ago = unread_octets_of_held(connections, held);
+    let Some(ends) = connections.take_if_held_or_wanted(hearing.looks.choice, sent)? else {
         return Ok(before);
     };
-    let direction = hearing.direction(between, ends);
-    let saying = hearing.saying();
-    let numbered = put_handed_messages(
+    let direction = hearing.direction_between(between, ends);
+    let saying = hearing.task_and_filter();
+    let numbered = hand_out_and_put_messages(
         alloc,
         text,
         dictionary,
@@ -193,10 +193,10 @@ pub(crate) fn say_sent<S: Copy, C: Takes<S>>(
         direction,
         before.numbered,
     )?;
-    let now = unread_so_far(connections, Some(ends));
-    put_unread(alloc, text, hearing, between, ago, now)?;
-    let counts = counts_with_sent(before.counts, held, now.since(ago));
-    let lost = let_go_past_limits(alloc, text, hearing, connections, counts.passed)?;
+    let now = unread_octets_of_held(connections, Some(ends));
+    put_unread_octets(alloc, text, hearing, between, ago, now)?;
+    let counts = counts_with_connection_and_unread(before.counts, held, now.unread_since(ago));
+    let lost = let_go_and_put_excess_connections(alloc, text, hearing, connections, counts.passed)?;
     Ok(Reckoned {
         numbered,
         counts: Counts {

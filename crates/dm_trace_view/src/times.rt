@@ -1,4 +1,4 @@
-//! How times are said.
+//! How times are said, and since which first one.
 ghost use Rattle.std.specs.Prelude.{◌≡◌};
 ghost use Rattle.dm_trace_view.specs.Traces.{first_time_of, clock_of};
 
@@ -27,7 +27,7 @@ pub(crate) fn first_known_time(first: Option<Time>, time: Option<Time>) -> Optio
 impl Times {
     /// The clock by which times are said: seconds since the first time, where times are relative and it is known, else
     /// date and time of day.
-    pub(crate) fn clock(self, first: Option<Time>) -> Clock
+    pub(crate) fn clock_since(self, first: Option<Time>) -> Clock
         ensures { result ≡ clock_of self first }
     {
         match (self, first) {

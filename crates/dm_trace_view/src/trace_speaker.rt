@@ -1,26 +1,30 @@
-//! What is said of each packet, by what it carries.
-ghost use Rattle.std.specs.Prelude.{◌≡◌, ◌++◌, ℕ, List, OnOk};
+//! The speaker of packets: what is said of each, by what it carries, and what is counted.
+ghost use Rattle.std.specs.Prelude.{◌≡◌, ◌++◌, ℕ, List, IfOk, OnOk};
 ghost use Rattle.std.specs.String.{string_bytes};
 ghost use Rattle.dm_capture.specs.Packets.{captured_of};
 ghost use Rattle.dm_flows.specs.Sctps.{sctp_seen};
 ghost use Rattle.dm_flows.specs.Tcps.{segment_seen};
+ghost use Rattle.dm_trace_view.specs.Captures.{trace_begun};
 ghost use Rattle.dm_trace_view.specs.Traces.{counted_passed, hearing_of, carries_other, with_passed};
 ghost use Rattle.dm_trace_view.specs.Traces.{SaysSegment, SaysSctp, SaysOther};
 
 use crate::counts::Counts;
+use crate::handed_messages::Numbered;
 use crate::looks::Looks;
 use crate::packet_context::{Hearing, Reckoned};
-use crate::sent_and_unread::say_sent;
+use crate::sent_and_unread::take_and_say_sent;
 use crate::speaker::PacketSpeaker;
 use crate::times::first_known_time;
 use dm_associations::Associations;
 use dm_capture::{Packet, Time};
 use dm_connections::Connections;
 use dm_dict::{Dictionary, NoMemory};
-use dm_flows::{Passed, SctpPacket, Segment, sctp_of, segment_of};
+use dm_flows::{Passed, SctpPacket, Segment, sctp_packet_of, segment_of};
 use dm_trace::Transport;
-use dm_view_lines::Task;
-use std::alloc::Global;
+use dm_view_lines::{Tally, Task};
+use dm_wire::codes::limits::MAX_MESSAGE_LEN;
+use std::alloc::{AllocError, Global};
+use std::hash::RandomState;
 
 /// Says of each packet what its connection says: those that are held, what is looked at, the first time, and what was
 /// counted.
@@ -33,9 +37,38 @@ pub(crate) struct TraceSpeaker<'a> {
     pub(crate) reckoned: Reckoned,
 }
 
+/// A speaker that saw nothing yet.
+pub(crate) fn new_trace_speaker<'a>(
+    alloc: Global,
+    keys: RandomState,
+    looks: Looks<'a>,
+) -> Result<TraceSpeaker<'a>, AllocError>
+    ensures { IfOk result (λ speaker. speaker ≡ trace_begun looks.entry) }
+{
+    Ok(TraceSpeaker {
+        connections: Connections::new(alloc, keys, MAX_MESSAGE_LEN)?,
+        associations: Associations::new(alloc, keys, MAX_MESSAGE_LEN)?,
+        looks,
+        first: None,
+        reckoned: Reckoned {
+            numbered: Numbered {
+                messages: 0,
+                tally: Tally { good: 0, bad: 0 },
+            },
+            counts: Counts {
+                connections: 0,
+                passed: 0,
+                secured: 0,
+                fragments: 0,
+                cut: 0,
+            },
+        },
+    })
+}
+
 /// The counts with one more packet that has neither a segment nor chunks: a fragment, or one that was captured in part.
 /// None else is counted.
-fn counts_with_passed(counts: Counts, why: Passed) -> Counts
+fn counts_with_fragment_or_cut(counts: Counts, why: Passed) -> Counts
     ensures { result ≡ counted_passed why counts }
 {
     match why {
@@ -67,7 +100,7 @@ impl<'a> TraceSpeaker<'a> {
         Hearing {
             task,
             looks: self.looks,
-            clock: self.looks.times.clock(self.first),
+            clock: self.looks.times.clock_since(self.first),
             time: packet.time,
             packet: packet.number,
             transport,
@@ -91,7 +124,7 @@ impl<'a> TraceSpeaker<'a> {
     {
         let hearing = self.packet_context(task, packet, Transport::Tcp);
         let before = self.reckoned;
-        self.reckoned = say_sent(
+        self.reckoned = take_and_say_sent(
             alloc,
             text,
             dictionary,
@@ -105,7 +138,7 @@ impl<'a> TraceSpeaker<'a> {
 
     /// Gives an SCTP packet to its association, where that is looked at, and appends what is said of the messages that
     /// it hands out and of what is lost.
-    fn say_sctp(
+    fn say_sctp_packet(
         &mut self,
         alloc: Global,
         dictionary: &Dictionary,
@@ -120,7 +153,7 @@ impl<'a> TraceSpeaker<'a> {
     {
         let hearing = self.packet_context(task, packet, Transport::Sctp);
         let before = self.reckoned;
-        self.reckoned = say_sent(
+        self.reckoned = take_and_say_sent(
             alloc,
             text,
             dictionary,
@@ -133,10 +166,10 @@ impl<'a> TraceSpeaker<'a> {
     }
 
     /// Counts a packet that has neither a segment nor chunks, if it is a fragment or was captured in part.
-    fn count_passed_packet(&mut self, why: Passed)
+    fn count_if_fragment_or_cut(&mut self, why: Passed)
         ensures { self.new ≡ with_passed self.old why }
     {
-        self.reckoned.counts = counts_with_passed(self.reckoned.counts, why);
+        self.reckoned.counts = counts_with_fragment_or_cut(self.reckoned.counts, why);
     }
 
     /// Gives the SCTP packet in a packet to its association, and appends what is said of it; a packet that holds none
@@ -152,10 +185,10 @@ impl<'a> TraceSpeaker<'a> {
         ensures { OnOk result ((more : List ℕ) × (string_bytes text.new ≡ string_bytes text.old ++ more)
             × SaysOther task dictionary.now self.old (captured_of packet.now) self.new more) }
     {
-        match sctp_of(packet.link, packet.octets.as_slice()) {
-            Ok(carried) => self.say_sctp(alloc, dictionary, task, packet, carried, text),
+        match sctp_packet_of(packet.link, packet.octets.as_slice()) {
+            Ok(carried) => self.say_sctp_packet(alloc, dictionary, task, packet, carried, text),
             Err(why) => {
-                self.count_passed_packet(why);
+                self.count_if_fragment_or_cut(why);
                 Ok(())
             }
         }
@@ -182,7 +215,7 @@ impl PacketSpeaker for TraceSpeaker<'_> {
                 alloc, dictionary, task, packet, text,
             ),
             Err(why) => {
-                self.count_passed_packet(why);
+                self.count_if_fragment_or_cut(why);
                 Ok(())
             }
         }

@@ -22,12 +22,12 @@ ghost use Rattle.dm_two_peers.specs.Talkers.{TalkersAreElecting, TwoTalks};
 use dm_machine::laws::{each_connection_changes_as_allowed, each_step_keeps_shape};
 
 /// Two closed peers without links make a sound world.
-pub fn closed_is_sound<P, M>()
+pub fn closed_peers_make_a_sound_world<P, M>()
     ensures { ClosedIsSound P M }
 {}
 
 /// Whatever happens keeps a world sound.
-pub fn each_happening_keeps_sound<P, M>()
+pub fn each_happening_keeps_worlds_sound<P, M>()
     ensures { HappeningKeepsSound P M }
 {
     each_connection_changes_as_allowed();
@@ -35,15 +35,15 @@ pub fn each_happening_keeps_sound<P, M>()
 }
 
 /// In a sound world two peers agree, and what one holds the other holds, or is told of.
-pub fn sound_is_promised<P, M>()
+pub fn peers_of_sound_worlds_agree<P, M>()
     ensures { SoundIsPromised P M }
 {}
 
 /// Two closed peers agree after every list of happenings.
-pub fn each_run_is_promised<P, M>()
+pub fn closed_peers_agree_after_each_run<P, M>()
     ensures { EachRunIsPromised P M }
 {
-    closed_is_sound::<P, M>();
+    closed_peers_make_a_sound_world::<P, M>();
     each_connection_changes_as_allowed();
     each_step_keeps_shape();
 }
@@ -53,10 +53,10 @@ pub fn each_run_is_promised<P, M>()
 /// is open on the link and the link had no loss, the rest is what is under way.
 ///
 /// It holds of peers that send what is submitted and hand up what comes (`CarriesMessages`).
-pub fn each_run_delivers<P, M>()
+pub fn each_run_delivers_in_order<P, M>()
     ensures { EachRunDelivers P M }
 {
-    closed_is_sound::<P, M>();
+    closed_peers_make_a_sound_world::<P, M>();
     each_connection_changes_as_allowed();
     each_step_keeps_shape();
 }
@@ -64,10 +64,10 @@ pub fn each_run_delivers<P, M>()
 /// What two closed peers that send what is submitted and hand up what comes (`CarriesMessages`) hand up at an event of
 /// any list of happenings is the message that it brings, once, or nothing: nothing is handed up but where a message
 /// arrives.
-pub fn each_run_hands_up_what_came<P, M>()
+pub fn each_run_hands_up_only_arrivals<P, M>()
     ensures { EachRunHandsUpWhatCame P M }
 {
-    closed_is_sound::<P, M>();
+    closed_peers_make_a_sound_world::<P, M>();
     each_connection_changes_as_allowed();
     each_step_keeps_shape();
 }
@@ -80,7 +80,7 @@ pub fn each_run_hands_up_what_came<P, M>()
 /// connection that the election keeps.
 ///
 /// `C` is what a peer is configured with, `H` the header of a message.
-pub fn each_clean_run_settles<P, M, C, H>()
+pub fn each_clean_run_keeps_its_course<P, M, C, H>()
     ensures { EachCleanRunSettles P M C H }
 {}
 
@@ -99,19 +99,19 @@ pub fn each_clean_run_can_fall_quiet<P, M, C, H>()
 {}
 
 /// In a sound world neither direction of a link that isn't up has a message or a disconnect.
-pub fn only_up_links_carry<P, M>()
+pub fn only_up_links_carry_anything<P, M>()
     ensures { OnlyUpLinksCarry P M }
 {}
 
 /// Where nothing is under way in a sound world, whatever happened before, each side holds just what the other holds,
 /// and one is Closed exactly where the other is.
-pub fn quiet_is_shared<P, M>()
+pub fn quiet_peers_hold_the_same<P, M>()
     ensures { QuietIsShared P M }
 {}
 
 /// Where nothing is under way in a sound world, whatever happened before, both are Closed, or each stands on one
 /// connection alone, the same one, in opposite roles, if one of them at least didn't lose its election to the other.
-pub fn quiet_is_joined<P, M>()
+pub fn quiet_peers_are_closed_or_joined<P, M>()
     ensures { QuietIsJoined P M }
 {}
 
@@ -123,72 +123,73 @@ pub fn quiet_is_joined<P, M>()
 pub fn each_quiet_run_is_closed_or_open<P, M>()
     ensures { EachQuietRunIsClosedOrOpen P M }
 {
-    closed_is_sound::<P, M>();
+    closed_peers_make_a_sound_world::<P, M>();
     each_connection_changes_as_allowed();
     each_step_keeps_shape();
 }
 
 /// A side that wins its elections doesn't come to Wait-Returns (RFC 6733, 5.6.4).
-pub fn winner_does_not_return()
+pub fn winners_never_enter_wait_returns()
     ensures { WinnerDoesNotReturn }
 {}
 
 /// From each sound world, whatever happened before, both sides can restart, and after some deliveries nothing is
 /// under way.
-pub fn each_world_can_clear<P, M>()
+pub fn each_world_can_restart_and_clear<P, M>()
     ensures { EachWorldCanClear P M }
 {}
 
 /// From each sound world, whatever happened before, both sides can restart, and after some deliveries a Start of either
 /// side, the Ack and two deliveries open both on the connection that it makes: a list that does it exists, which isn't
 /// to say that peers take it by themselves.
-pub fn each_world_can_open<P, M, C, H>()
+pub fn each_world_can_restart_and_open<P, M, C, H>()
     ensures { EachWorldCanOpen P M C H }
 {}
 
 /// After both have restarted nobody acts any more, whatever Acks, Nacks and deliveries come in whatever order:
 /// nothing is put in, each step takes off one thing that was under way, and it is quiet where nothing is left.
-pub fn each_restarted_run_drains<P, M>()
+pub fn restarted_peers_only_drain_links<P, M>()
     ensures { EachRestartedRunDrains P M }
 {}
 
-/// After every list of happenings fewer octets are delivered of a message than it has.
-pub fn each_run_is_cut<P, M>()
+/// Of peers that send no empty message: after every list of happenings fewer octets are delivered of a front message
+/// than it has; each happening keeps it so.
+pub fn no_front_message_is_fully_delivered<P, M>()
     ensures step { HappeningKeepsCut P M }
     ensures run { EachRunIsCut P M }
 {}
 
 /// No happening makes an end fresh but the Ack of its link, which makes that of the side that didn't open it.
-pub fn acks_make_ends<P, M>()
+pub fn only_acks_make_ends_fresh<P, M>()
     ensures { AcksMakeEnds P M }
 {}
 
 /// It makes no difference how messages were cut: a piece that ends no message changes nothing but the octets
 /// delivered, one that ends its message is the delivery, and a loss is the one of whole messages, in its effect and in
 /// what it puts in too. A piece counts as a step just where it ends its message.
-pub fn pieces_add_up<P, M>()
+pub fn pieces_add_up_to_messages<P, M>()
     ensures pieces { EachPieceAddsUp P M }
     ensures counts { EachPieceCounts P M }
     ensures losses { EachLossAddsUp P M }
 {}
 
 /// The state machine itself, with a word for a message, makes peers as these laws ask for them.
-pub fn kinds_are_a_machine()
+pub fn state_machine_itself_makes_peers()
     ensures { KindsAreAMachine }
 {}
 
 /// What the definitions say of two runs: one side starts, and it is the initiator; both start, and the connection that
 /// the greater host accepts is kept (RFC 6733, 5.6.4).
-pub fn two_runs()
+pub fn two_sample_runs_open_both()
     ensures { TwoRuns }
 {}
 
 /// The state machine with numbers makes peers as the law of clean runs asks for them.
-pub fn talkers_are_electing()
+pub fn numbered_machine_makes_electing_peers()
     ensures { TalkersAreElecting }
 {}
 
 /// What the definitions say of two clean runs: what each puts in, and which link is kept.
-pub fn two_talks()
+pub fn sample_clean_runs_keep_their_course()
     ensures { TwoTalks }
 {}

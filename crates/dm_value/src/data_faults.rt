@@ -9,7 +9,7 @@ ghost use Rattle.dm_value.specs.Flaws.{flaw, is_visible, is_uri, is_under, has_i
 
 use crate::{AvpType, ValueFault};
 use byteorder::{BigEndian, ByteOrder};
-use dm_wire::laws::members_spell;
+use dm_wire::laws::members_are_what_octets_spell;
 use dm_wire::spells_avps;
 
 /// What is wrong with octets of the type, or `None` where they have a value. It never answers want of memory.
@@ -27,7 +27,7 @@ pub fn value_fault(kind: AvpType, octets: &[u8]) -> Option<ValueFault>
     ensures fault { IfSome result (λ fault. RefusesData kind octets.now fault) }
     ensures good { IfNone result ((value : Value) × Means kind octets.now value) }
 {
-    members_spell();
+    members_are_what_octets_spell();
     fault_by_type(kind, octets)
 }
 
@@ -44,7 +44,7 @@ fn fault_by_type(kind: AvpType, octets: &[u8]) -> Option<ValueFault>
         AvpType::Integer64 | AvpType::Unsigned64 => size_fault(octets, 8),
         AvpType::Address => address_fault(octets),
         AvpType::UTF8String => length_or_form_fault(octets, 0, is_valid_utf8(octets)),
-        AvpType::DiameterIdentity => length_or_form_fault(octets, 1, is_visible(octets)),
+        AvpType::DiameterIdentity => length_or_form_fault(octets, 1, are_all_visible(octets)),
         AvpType::DiameterURI => length_or_form_fault(octets, 7, looks_like_uri(octets)),
     }
 }
@@ -110,7 +110,7 @@ fn is_valid_utf8(octets: &[u8]) -> bool
 }
 
 /// Whether all octets are ASCII, none a space and none a control.
-fn is_visible(octets: &[u8]) -> bool
+fn are_all_visible(octets: &[u8]) -> bool
     ensures { result ≡ list_all is_visible octets.now }
 {
     octets.iter().all(|octet| *octet >= 0x21 && *octet <= 0x7e)
@@ -128,7 +128,7 @@ fn is_visible_behind_scheme(scheme: &[u8], octets: &[u8]) -> bool
     ensures { result ≡ is_under scheme.now octets.now }
 {
     match octets.strip_prefix(scheme) {
-        Some(rest) => !rest.is_empty() && is_visible(rest),
+        Some(rest) => !rest.is_empty() && are_all_visible(rest),
         None => false,
     }
 }

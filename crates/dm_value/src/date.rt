@@ -30,8 +30,8 @@ pub fn utc_date(seconds: u32) -> Utc
 {
     let instant = seconds_since_1900(seconds);
     let time = (instant % 86_400) as u32;
-    let (year, of_year) = year_of_day((instant / 86_400) as u32);
-    let (month, of_month) = month_of_day(year, of_year);
+    let (year, of_year) = year_and_day_of_year((instant / 86_400) as u32);
+    let (month, of_month) = month_and_day_of_month(year, of_year);
     Utc {
         year,
         month,
@@ -54,12 +54,12 @@ fn seconds_since_1900(seconds: u32) -> u64
 }
 
 /// The year of the day so many days after 1900-01-01, and how many days of that year come before it.
-fn year_of_day(days: u32) -> (u32, u32)
+fn year_and_day_of_year(days: u32) -> (u32, u32)
     ensures { result ≡ year_at days }
 {
     let mut left = days;
     for year in 1900..2104 {
-        let length = days_of_year(year);
+        let length = days_in_year(year);
         if left < length {
             return (year, left);
         }
@@ -69,12 +69,12 @@ fn year_of_day(days: u32) -> (u32, u32)
 }
 
 /// The month of the day so many days after the first of the year, and how many days of that month come before it.
-fn month_of_day(year: u32, days: u32) -> (u32, u32)
+fn month_and_day_of_month(year: u32, days: u32) -> (u32, u32)
     ensures { result ≡ month_at year days }
 {
     let mut left = days;
     for month in 1..12 {
-        let length = days_of_month(year, month);
+        let length = days_in_month(year, month);
         if left < length {
             return (month, left);
         }
@@ -83,17 +83,17 @@ fn month_of_day(year: u32, days: u32) -> (u32, u32)
     (12, left)
 }
 
-fn days_of_year(year: u32) -> u32
+fn days_in_year(year: u32) -> u32
     ensures { result ≡ days_of_year year }
 {
-    if is_leap(year) { 366 } else { 365 }
+    if is_leap_year(year) { 366 } else { 365 }
 }
 
-fn days_of_month(year: u32, month: u32) -> u32
+fn days_in_month(year: u32, month: u32) -> u32
     ensures { result ≡ days_of_month year month }
 {
     if month == 2 {
-        if is_leap(year) { 29 } else { 28 }
+        if is_leap_year(year) { 29 } else { 28 }
     } else {
         if has_thirty_days(month) { 30 } else { 31 }
     }
@@ -106,7 +106,7 @@ fn has_thirty_days(month: u32) -> bool
     month == 4 || month == 6 || month == 9 || month == 11
 }
 
-fn is_leap(year: u32) -> bool
+fn is_leap_year(year: u32) -> bool
     ensures { result ≡ is_leap year }
 {
     year % 4 == 0 && (year % 100 != 0 || year % 400 == 0)

@@ -4,48 +4,50 @@ ghost use Rattle.dm_value.specs.Decided.{FlawDecides, ValueOrFault};
 ghost use Rattle.dm_value.specs.OneValue.{OneValue, OneType, NoValueRefused, EachLeastLength};
 ghost use Rattle.dm_value.specs.ValueIn.{ValueMeant};
 
-use dm_wire::laws::{members_spell, one_list, spelled_are_members};
+use dm_wire::laws::{
+    members_are_what_octets_spell, octets_spell_one_avp_list_at_most, spelled_avps_are_members,
+};
 
 /// Octets of a type have at most one value (RFC 6733, 4.2 to 4.4).
-pub fn one_value()
+pub fn octets_have_one_value_at_most()
     ensures { OneValue }
 {
-    one_list();
+    octets_spell_one_avp_list_at_most();
 }
 
 /// A value is of one type.
-pub fn one_type()
+pub fn each_value_is_of_one_type()
     ensures { OneType }
 {}
 
 /// Octets that have a value have no wrong length and no wrong value.
-pub fn no_value_refused()
+pub fn octets_of_values_have_no_fault()
     ensures { NoValueRefused }
 {}
 
 /// No octets below the least length of their type have a value, and some of that length do.
-pub fn least_length()
+pub fn no_value_is_below_the_least_length()
     ensures { EachLeastLength }
 {}
 
 /// What `flaw` answers for octets of a type is their fault, or that they have a value (7.1.5).
-pub fn flaw_decides()
+pub fn flaw_is_fault_or_none()
     ensures { FlawDecides }
 {
-    members_spell();
+    members_are_what_octets_spell();
 }
 
 /// Octets of a type have a value or a fault. It stands for users.
-pub fn value_or_fault()
+pub fn octets_have_a_value_or_a_fault()
     ensures { ValueOrFault }
 {
-    flaw_decides();
+    flaw_is_fault_or_none();
 }
 
 /// The value that octets of a type mean is `value_in` of them: what reads it answers that, and what shows it shows
 /// that.
-pub fn value_meant()
+pub fn value_in_is_what_octets_mean()
     ensures { ValueMeant }
 {
-    spelled_are_members();
+    spelled_avps_are_members();
 }

@@ -6,7 +6,7 @@ ghost use Rattle.dm_value.specs.Meaning.{Means};
 ghost use Rattle.dm_value.specs.ValueIn.{value_in};
 ghost use Rattle.dm_value.specs.declared.value.Value.{Value};
 
-use crate::laws::{one_value, value_meant};
+use crate::laws::{octets_have_one_value_at_most, value_in_is_what_octets_mean};
 use crate::{Address, AvpType, Ip, Text, Value, ValueFault, value_fault};
 use byteorder::{BigEndian, ByteOrder};
 use dm_wire::{AvpList, Octets, decode_avps};
@@ -38,8 +38,8 @@ pub fn read_value(alloc: Global, kind: AvpType, octets: &[u8]) -> Result<Value, 
     // Every refusal but want of memory is the octets' own.
     ensures fault { IfErr result (λ fault. (fault ≡ ValueFault.NoMemory) ⊎ RefusesData kind octets.now fault) }
 {
-    one_value();
-    value_meant();
+    octets_have_one_value_at_most();
+    value_in_is_what_octets_mean();
     match value_fault(kind, octets) {
         Some(fault) => Err(fault),
         None => read_faultless_value(alloc, kind, octets),

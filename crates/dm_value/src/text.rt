@@ -1,4 +1,4 @@
-//! Texts.
+//! Texts in UTF-8, as the values of AVPs of type UTF8String (RFC 6733, 4.3.1).
 ghost use Rattle.std.specs.Prelude.{◌≡◌, nat_eq, string_bytes};
 ghost use Rattle.std.specs.Str.{IsUtf8};
 ghost use Rattle.std.specs.Cmp.Lexicographic.{pointwise, nat_list_eq_equiv};

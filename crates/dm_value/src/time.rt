@@ -1,4 +1,4 @@
-//! Times (RFC 6733, 4.3.1).
+//! The seconds since 1970 of a value of type Time (RFC 6733, 4.3.1).
 ghost use Rattle.std.specs.Prelude.{◌≡◌};
 ghost use Rattle.dm_value.specs.Times.{unix_time};
 

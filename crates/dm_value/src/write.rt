@@ -8,7 +8,7 @@ ghost use Rattle.dm_wire.specs.Spelling.{be};
 ghost use Rattle.dm_value.specs.Meaning.{Means, type_of, IsInRange, HasNoOctets, HasLongMember, IsMisshapen};
 ghost use Rattle.dm_value.specs.declared.value.Value.{Value};
 
-use crate::laws::one_value;
+use crate::laws::octets_have_one_value_at_most;
 use crate::numbers::{write_signed_32, write_signed_64, write_unsigned_32, write_unsigned_64};
 use crate::{Address, AvpType, Ip, Value, ValueFault, value_fault};
 use byteorder::{BigEndian, ByteOrder};
@@ -34,7 +34,7 @@ pub fn write_value(alloc: Global, value: &Value) -> Result<Vec<u8>, ValueFault>
         ↔ (HasNoOctets value.now × (HasLongMember value.now → ⊥)) }
     ensures length { result ≢ Err ValueFault.WrongLength }
 {
-    one_value();
+    octets_have_one_value_at_most();
     if is_misshapen(value) {
         return Err(ValueFault::WrongValue);
     }

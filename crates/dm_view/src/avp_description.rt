@@ -57,7 +57,7 @@ impl fmt::Display for AvpDescription<'_> {
 
 /// Writes the front of an AVP: name, code, vendor and flags.
 #[tactic(auto, unfolding(crate::specs::View::front_view))]
-fn write_front<W: fmt::Write>(
+fn write_avp_without_data<W: fmt::Write>(
     f: &mut fmt::Formatter<W>,
     def: Option<&AvpDef>,
     avp: AvpRef<'_>,
@@ -84,19 +84,19 @@ fn write_avp<W: fmt::Write>(
         (definition dictionary.now.avps (avp_of avp.entry)) (avp_of avp.entry)) f.new }
 {
     let def = dictionary.avp_by_code(avp.code, avp.vendor);
-    write_front(f, def, avp)?;
+    write_avp_without_data(f, def, avp)?;
     let Some(def) = def else {
         return write!(f, " {}", Data(avp.bytes));
     };
     if let AvpType::Grouped = def.kind {
-        return write_group(f, dictionary, avp.bytes, depth);
+        return write_group_data(f, dictionary, avp.bytes, depth);
     }
     write_data(f, def, avp.bytes)
 }
 
 /// Writes the members of a group between braces, where so many groups may stand inside each other.
 #[cycle(describing)]
-fn write_group<W: fmt::Write>(
+fn write_group_data<W: fmt::Write>(
     f: &mut fmt::Formatter<W>,
     dictionary: &Dictionary,
     octets: &[u8],

@@ -10,7 +10,7 @@ ghost use Rattle.dm_view.specs.View.{avp_name, front_view, avp_view, avps_view, 
 
 use crate::code_and_flags::put_code_vendor_and_flags;
 use crate::data::put_data;
-use crate::texts_and_numbers::{put_indent, put_octets_name, put_words_and_octets};
+use crate::texts_and_numbers::{put_indent, put_name_or_hexadecimal, put_words_and_hexadecimal};
 use dm_dict::{AvpDef, AvpType, Dictionary};
 use dm_wire::{AvpRef, AvpsRef, spells_avps};
 use std::alloc::AllocError;
@@ -23,14 +23,14 @@ pub(crate) fn put_avp_name(text: &mut String, def: Option<&AvpDef>) -> Result<()
     ensures { OnOk result (string_bytes text.new ≡ string_bytes text.old ++ avp_name (option_copied def.entry)) }
 {
     match def {
-        Some(def) => put_octets_name(text, def.name.as_slice()),
+        Some(def) => put_name_or_hexadecimal(text, def.name.as_slice()),
         None => text.push_str("?"),
     }
 }
 
 /// Appends the front of an AVP's line: name, code, vendor and flags.
 #[tactic(auto, unfolding(crate::specs::View::front_view))]
-pub(crate) fn put_avp_front(
+pub(crate) fn put_avp_without_data(
     text: &mut String,
     def: Option<&AvpDef>,
     avp: AvpRef<'_>,
@@ -43,11 +43,15 @@ pub(crate) fn put_avp_front(
 }
 
 /// Appends words, data in hexadecimal, and the end of the line.
-fn put_data_line(text: &mut String, words: &str, octets: &[u8]) -> Result<(), AllocError>
+fn put_words_and_hexadecimal_line(
+    text: &mut String,
+    words: &str,
+    octets: &[u8],
+) -> Result<(), AllocError>
     ensures { OnOk result (string_bytes text.new
         ≡ string_bytes text.old ++ words.now ++ data_text octets.now ++ 10 ∷ []) }
 {
-    put_words_and_octets(text, words, octets)?;
+    put_words_and_hexadecimal(text, words, octets)?;
     text.push_str("\n")
 }
 
@@ -67,12 +71,12 @@ fn put_avp(
 {
     let def = dictionary.avp_by_code(avp.code, avp.vendor);
     put_indent(text, level)?;
-    put_avp_front(text, def, avp)?;
+    put_avp_without_data(text, def, avp)?;
     let Some(def) = def else {
-        return put_data_line(text, " ", avp.bytes);
+        return put_words_and_hexadecimal_line(text, " ", avp.bytes);
     };
     if let AvpType::Grouped = def.kind {
-        return put_group(text, dictionary, avp.bytes, depth, level + 1);
+        return put_group_data(text, dictionary, avp.bytes, depth, level + 1);
     }
     put_data(text, def, avp.bytes)?;
     text.push_str("\n")
@@ -81,7 +85,7 @@ fn put_avp(
 /// Appends the members of a group at this level, or its octets behind `too deep` where `depth` is 0, and behind `wrong
 /// length` where they spell no AVPs.
 #[cycle(viewing)]
-fn put_group(
+fn put_group_data(
     text: &mut String,
     dictionary: &Dictionary,
     octets: &[u8],
@@ -93,10 +97,10 @@ fn put_group(
         ++ group_view depth level dictionary.now.avps octets.now) }
 {
     if depth == 0 {
-        return put_data_line(text, " too deep ", octets);
+        return put_words_and_hexadecimal_line(text, " too deep ", octets);
     }
     if !spells_avps(octets) {
-        return put_data_line(text, " wrong length ", octets);
+        return put_words_and_hexadecimal_line(text, " wrong length ", octets);
     }
     text.push_str("\n")?;
     let members = AvpsRef::Spelled(octets);

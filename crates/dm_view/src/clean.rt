@@ -1,4 +1,4 @@
-//! Octets that stand for themselves wherever a text is put, told sixteen at once.
+//! ASCII that needs no escape in a text or in JSON, told sixteen octets at once.
 ghost use Rattle.std.specs.Prelude.{◌≡◌, ◌≤◌, ◌*◌, ◌+◌, true, length};
 ghost use Rattle.std.specs.List.{All};
 ghost use Rattle.dm_view.specs.Clean.{NeedsNoEscape, CleanBetween};
@@ -6,63 +6,64 @@ ghost use Rattle.dm_view.specs.Clean.{NeedsNoEscape, CleanBetween};
 use std::simd::prelude::*;
 
 /// True only where each octet lies from `least` to 126 and is no `"` and no `\`, so that none needs an escape. False
-/// says nothing of them.
-pub(crate) fn are_clean(octets: &[u8], least: u8) -> bool
+/// doesn't say that one does: octets that aren't ASCII need none.
+pub(crate) fn are_escape_free_ascii(octets: &[u8], least: u8) -> bool
     requires bound { least ≤ 33 }
     ensures { result ≡ true → All (NeedsNoEscape least) octets.now }
 {
     if octets.len() >= 16 {
-        are_clean_by_sixteens(octets, least)
+        are_escape_free_ascii_by_sixteens(octets, least)
     } else if octets.len() >= 8 {
-        are_clean_by_eights(octets, least)
+        are_escape_free_ascii_by_eights(octets, least)
     } else {
-        are_clean_singly(octets, least)
+        are_escape_free_ascii_singly(octets, least)
     }
 }
 
-/// True only where each of these sixteen octets or more is clean (`are_clean`). Those at the end may be looked at
-/// twice.
-fn are_clean_by_sixteens(octets: &[u8], least: u8) -> bool
+/// True only where each of these sixteen octets or more is escape-free (`are_escape_free_ascii`). Those at the end may
+/// be looked at twice.
+fn are_escape_free_ascii_by_sixteens(octets: &[u8], least: u8) -> bool
     requires bound { least ≤ 33 }
     requires many { 16 ≤ length octets.now }
     ensures { result ≡ true → CleanBetween least octets.now 0 (length octets.now) }
 {
-    if !are_sixteen_clean(octets, octets.len() - 16, least) {
+    if !are_sixteen_escape_free_ascii(octets, octets.len() - 16, least) {
         return false;
     }
-    are_runs_clean(octets, (octets.len() - 1) / 16, least)
+    are_runs_escape_free_ascii(octets, (octets.len() - 1) / 16, least)
 }
 
-/// True only where each octet of the first `runs` runs of sixteen is clean (`are_clean`).
-fn are_runs_clean(octets: &[u8], runs: usize, least: u8) -> bool
+/// True only where each octet of the first `runs` runs of sixteen is escape-free (`are_escape_free_ascii`).
+fn are_runs_escape_free_ascii(octets: &[u8], runs: usize, least: u8) -> bool
     requires bound { least ≤ 33 }
     requires within { 16 * runs ≤ length octets.now }
     ensures { result ≡ true → CleanBetween least octets.now 0 (16 * runs) }
 {
     'runs: for k in 0..runs {
-        if !are_sixteen_clean(octets, 16 * k, least) {
+        if !are_sixteen_escape_free_ascii(octets, 16 * k, least) {
             return false;
         }
     }
     true
 }
 
-/// True only where each of these eight to sixteen octets is clean (`are_clean`). Some may be looked at twice.
-fn are_clean_by_eights(octets: &[u8], least: u8) -> bool
+/// True only where each of these eight to sixteen octets is escape-free (`are_escape_free_ascii`). Some may be looked
+/// at twice.
+fn are_escape_free_ascii_by_eights(octets: &[u8], least: u8) -> bool
     requires bound { least ≤ 33 }
     requires many { 8 ≤ length octets.now }
     requires few { length octets.now ≤ 16 }
     ensures { result ≡ true → CleanBetween least octets.now 0 (length octets.now) }
 {
-    if !are_eight_clean(octets, octets.len() - 8, least) {
+    if !are_eight_escape_free_ascii(octets, octets.len() - 8, least) {
         return false;
     }
-    are_eight_clean(octets, 0, least)
+    are_eight_escape_free_ascii(octets, 0, least)
 }
 
-/// True only where each of the sixteen octets from this place on is clean (`are_clean`).
+/// True only where each of the sixteen octets from this place on is escape-free (`are_escape_free_ascii`).
 #[inline(always)]
-fn are_sixteen_clean(octets: &[u8], from: usize, least: u8) -> bool
+fn are_sixteen_escape_free_ascii(octets: &[u8], from: usize, least: u8) -> bool
     requires bound { least ≤ 33 }
     requires within { from + 16 ≤ length octets.now }
     ensures { result ≡ true → CleanBetween least octets.now from (from + 16) }
@@ -80,9 +81,9 @@ fn are_sixteen_clean(octets: &[u8], from: usize, least: u8) -> bool
     lanes.simd_eq(u8x16::splat(b'\\')).to_bitmask() == 0
 }
 
-/// True only where each of the eight octets from this place on is clean (`are_clean`).
+/// True only where each of the eight octets from this place on is escape-free (`are_escape_free_ascii`).
 #[inline(always)]
-fn are_eight_clean(octets: &[u8], from: usize, least: u8) -> bool
+fn are_eight_escape_free_ascii(octets: &[u8], from: usize, least: u8) -> bool
     requires bound { least ≤ 33 }
     requires within { from + 8 ≤ length octets.now }
     ensures { result ≡ true → CleanBetween least octets.now from (from + 8) }
@@ -100,8 +101,8 @@ fn are_eight_clean(octets: &[u8], from: usize, least: u8) -> bool
     lanes.simd_eq(u8x8::splat(b'\\')).to_bitmask() == 0
 }
 
-/// True only where each octet is clean (`are_clean`), looked at one by one.
-fn are_clean_singly(octets: &[u8], least: u8) -> bool
+/// True only where each octet is escape-free (`are_escape_free_ascii`), looked at one by one.
+fn are_escape_free_ascii_singly(octets: &[u8], least: u8) -> bool
     ensures { result ≡ true → CleanBetween least octets.now 0 (length octets.now) }
 {
     'octets: for i in 0..octets.len() {

@@ -21,7 +21,7 @@ const LETTERS: usize = 22;
 const FRONT_SIZE: usize = 26;
 
 /// Room for what stands behind a name, the letters of an AVP's flags at its end.
-fn room_with_flags(vendor: bool, mandatory: bool, protected: bool) -> [u8; FRONT_SIZE]
+fn room_with_flags_at_end(vendor: bool, mandatory: bool, protected: bool) -> [u8; FRONT_SIZE]
     ensures put { drop letters result ≡ 32 ∷ avp_marks vendor mandatory protected }
     ensures ascii { IsAscii (avp_marks vendor mandatory protected) }
 {
@@ -34,7 +34,7 @@ fn room_with_flags(vendor: bool, mandatory: bool, protected: bool) -> [u8; FRONT
 }
 
 /// Puts a sign and a number in decimal before this place, and tells where they start.
-fn prepend_number(sign: u8, number: u32, room: &mut [u8; FRONT_SIZE], end: usize) -> usize
+fn prepend_sign_and_number(sign: u8, number: u32, room: &mut [u8; FRONT_SIZE], end: usize) -> usize
     requires many { 11 ≤ end }
     requires within { end ≤ front_size }
     ensures put { drop result room.new ≡ sign ∷ decimal number ++ drop end room.old }
@@ -48,14 +48,14 @@ fn prepend_number(sign: u8, number: u32, room: &mut [u8; FRONT_SIZE], end: usize
 }
 
 /// Puts a vendor behind a `/`, where there is one, before the letters, and tells where it starts.
-fn prepend_vendor(vendor: Option<u32>, room: &mut [u8; FRONT_SIZE]) -> usize
+fn prepend_vendor_if_any(vendor: Option<u32>, room: &mut [u8; FRONT_SIZE]) -> usize
     ensures put { drop result room.new ≡ vendor_text vendor ++ drop letters room.old }
     ensures ascii { IsAscii (vendor_text vendor) }
     ensures bound { letters ≤ result + 11 }
     ensures before { result ≤ letters }
 {
     match vendor {
-        Some(vendor) => prepend_number(b'/', vendor, room, LETTERS),
+        Some(vendor) => prepend_sign_and_number(b'/', vendor, room, LETTERS),
         None => LETTERS,
     }
 }
@@ -68,9 +68,9 @@ pub(crate) fn put_code_vendor_and_flags(
     ensures { OnOk result (string_bytes text.new
         ≡ string_bytes text.old ++ 32 ∷ avp_front_text (avp_of avp.entry)) }
 {
-    let mut room = room_with_flags(avp.vendor.is_some(), avp.mandatory, avp.protected);
-    let vendor = prepend_vendor(avp.vendor, &mut room);
-    let start = prepend_number(b' ', avp.code, &mut room, vendor);
+    let mut room = room_with_flags_at_end(avp.vendor.is_some(), avp.mandatory, avp.protected);
+    let vendor = prepend_vendor_if_any(avp.vendor, &mut room);
+    let start = prepend_sign_and_number(b' ', avp.code, &mut room, vendor);
     // Digits and letters are ASCII.
     text.push_str(unsafe { str::from_utf8_unchecked(&room[start..]) })
 }

@@ -1,9 +1,8 @@
-//! The data of an AVP that is no group, by its type (RFC 6733, 4.2 and 4.3).
+//! The data of an AVP that is no group, by its type, or what is wrong with it in words (RFC 6733, 4.2 and 4.3).
 ghost use Rattle.std.specs.Prelude.{◌≡◌, ◌≢◌, ◌++◌, None, length, codes, OnOk};
 ghost use Rattle.std.specs.Fmt.{decimal};
 ghost use Rattle.std.specs.Net.Text.{ipv4_text};
 ghost use Rattle.std.specs.Option.{option_copied};
-ghost use Rattle.std.specs.Str.{IsUtf8};
 ghost use Rattle.std.specs.String.{string_bytes};
 ghost use Rattle.hex.specs.Hex.{encode_lower};
 ghost use Rattle.dm_wire.specs.Printed.{data_text};
@@ -13,11 +12,11 @@ ghost use Rattle.dm_value.specs.ValueIn.{value_in, address_in};
 ghost use Rattle.dm_view.specs.Words.{quoted};
 ghost use Rattle.dm_view.specs.View.{listed_text, value_view, flaw_words, data_view};
 
-use crate::clean::are_clean;
+use crate::clean::are_escape_free_ascii;
 use crate::described_data::ipv6_octets;
 use crate::texts_and_numbers::{
-    put_octets, put_octets_name, put_quoted, put_signed, put_unsigned, put_words_and_number,
-    put_words_and_octets,
+    put_hexadecimal_or_dash, put_name_or_hexadecimal, put_quoted_or_hexadecimal, put_signed_number,
+    put_unsigned_number, put_utf8_between, put_words_and_hexadecimal, put_words_and_number,
 };
 use byteorder::{BigEndian, ByteOrder};
 use dm_dict::{AvpDef, AvpType, Ip, ValueFault, unix_seconds, utc_date, value_fault};
@@ -33,12 +32,12 @@ fn put_enumerated(text: &mut String, name: Option<&Octets>, number: i32) -> Resu
 {
     match name {
         Some(name) => {
-            put_octets_name(text, name.as_slice())?;
+            put_name_or_hexadecimal(text, name.as_slice())?;
             text.push_str(" (")?;
-            put_signed(text, i64::from(number))?;
+            put_signed_number(text, i64::from(number))?;
             text.push_str(")")
         }
-        None => put_signed(text, i64::from(number)),
+        None => put_signed_number(text, i64::from(number)),
     }
 }
 
@@ -57,7 +56,7 @@ fn put_ipv4(text: &mut String, octets: &[u8]) -> Result<(), AllocError>
 }
 
 /// Appends an address of a family that is no IP.
-fn put_other_address(text: &mut String, family: u16, octets: &[u8]) -> Result<(), AllocError>
+fn put_non_ip_address(text: &mut String, family: u16, octets: &[u8]) -> Result<(), AllocError>
     ensures { OnOk result (string_bytes text.new ≡ string_bytes text.old
         ++ codes "family " ++ decimal family ++ codes " " ++ encode_lower octets.now) }
 {
@@ -75,15 +74,15 @@ pub(crate) fn put_address(text: &mut String, octets: &[u8]) -> Result<(), AllocE
     match BigEndian::read_u16(front) {
         1 => put_ipv4(text, rest),
         2 => write!(text, "{}", Ip::V6(ipv6_octets(rest))),
-        family => put_other_address(text, family, rest),
+        family => put_non_ip_address(text, family, rest),
     }
 }
 
-/// Appends the seconds since 1970, and the date and time of day.
+/// Appends a value of type Time: its seconds since 1970, and the date and time of day.
 fn put_time(text: &mut String, seconds: u32) -> Result<(), AllocError>
     ensures { OnOk result (string_bytes text.new ≡ string_bytes text.old ++ time_text seconds) }
 {
-    put_signed(text, unix_seconds(seconds))?;
+    put_signed_number(text, unix_seconds(seconds))?;
     write!(text, " {}", utc_date(seconds))
 }
 
@@ -92,11 +91,11 @@ fn put_text_value(text: &mut String, octets: &[u8]) -> Result<(), AllocError>
     requires { flaw AvpType.UTF8String octets.now ≡ None }
     ensures { OnOk result (string_bytes text.new ≡ string_bytes text.old ++ quoted octets.now) }
 {
-    put_quoted(text, octets)
+    put_quoted_or_hexadecimal(text, octets)
 }
 
 /// Appends an identity, which is visible ASCII.
-fn put_identity(text: &mut String, octets: &[u8]) -> Result<(), AllocError>
+fn put_identity_value(text: &mut String, octets: &[u8]) -> Result<(), AllocError>
     requires { flaw AvpType.DiameterIdentity octets.now ≡ None }
     ensures { OnOk result (string_bytes text.new ≡ string_bytes text.old ++ name_text octets.now) }
 {
@@ -112,16 +111,16 @@ fn put_value(text: &mut String, def: &AvpDef, octets: &[u8]) -> Result<(), Alloc
         ≡ string_bytes text.old ++ value_view def.now.values (value_in def.now.kind octets.now)) }
 {
     match def.kind {
-        AvpType::OctetString => put_octets(text, octets),
-        AvpType::Integer32 => put_signed(text, i64::from(BigEndian::read_i32(octets))),
-        AvpType::Integer64 => put_signed(text, BigEndian::read_i64(octets)),
-        AvpType::Unsigned32 => put_unsigned(text, u64::from(BigEndian::read_u32(octets))),
-        AvpType::Unsigned64 => put_unsigned(text, BigEndian::read_u64(octets)),
+        AvpType::OctetString => put_hexadecimal_or_dash(text, octets),
+        AvpType::Integer32 => put_signed_number(text, i64::from(BigEndian::read_i32(octets))),
+        AvpType::Integer64 => put_signed_number(text, BigEndian::read_i64(octets)),
+        AvpType::Unsigned32 => put_unsigned_number(text, u64::from(BigEndian::read_u32(octets))),
+        AvpType::Unsigned64 => put_unsigned_number(text, BigEndian::read_u64(octets)),
         AvpType::Address => put_address(text, octets),
         AvpType::Time => put_time(text, BigEndian::read_u32(octets)),
         AvpType::UTF8String => put_text_value(text, octets),
-        AvpType::DiameterIdentity => put_identity(text, octets),
-        AvpType::DiameterURI => put_octets_name(text, octets),
+        AvpType::DiameterIdentity => put_identity_value(text, octets),
+        AvpType::DiameterURI => put_name_or_hexadecimal(text, octets),
         AvpType::Enumerated => {
             let number = BigEndian::read_i32(octets);
             put_enumerated(text, def.values.name(number), number)
@@ -142,67 +141,55 @@ pub(crate) fn flaw_words(fault: ValueFault) -> &'static str
     }
 }
 
-/// Appends what is wrong with data, and the data.
-fn put_flaw(text: &mut String, fault: ValueFault, octets: &[u8]) -> Result<(), AllocError>
+/// Appends what is wrong with data, and the data in hexadecimal, a space before each.
+fn put_flaw_and_hexadecimal(
+    text: &mut String,
+    fault: ValueFault,
+    octets: &[u8],
+) -> Result<(), AllocError>
     ensures { OnOk result (string_bytes text.new
         ≡ string_bytes text.old ++ codes " " ++ flaw_words fault ++ codes " " ++ data_text octets.now) }
 {
     text.push_str(" ")?;
     text.push_str(flaw_words(fault))?;
-    put_words_and_octets(text, " ", octets)
+    put_words_and_hexadecimal(text, " ", octets)
 }
 
-/// Appends octets that are UTF-8, as they are, between `front` and `back`.
-fn put_clean_data(
-    text: &mut String,
-    front: &str,
-    octets: &[u8],
-    back: &str,
-) -> Result<(), AllocError>
-    requires { IsUtf8 octets.now }
-    ensures { OnOk result (string_bytes text.new
-        ≡ string_bytes text.old ++ (front.now ++ (octets.now ++ back.now))) }
-{
-    let words = unsafe { str::from_utf8_unchecked(octets) };
-    text.push_str(front)?;
-    text.push_str(words)?;
-    text.push_str(back)
-}
-
-/// Appends the data of a UTF8String: its value, or what is wrong with it and its octets. Clean octets aren't checked.
+/// Appends the data of a UTF8String: its value, or what is wrong with it and its octets. Escape-free octets aren't
+/// checked.
 fn put_text_data(text: &mut String, def: &AvpDef, octets: &[u8]) -> Result<(), AllocError>
     requires { def.now.kind ≡ AvpType.UTF8String }
     ensures { OnOk result (string_bytes text.new ≡ string_bytes text.old ++ data_view def.now octets.now) }
 {
-    if are_clean(octets, b' ') {
-        return put_clean_data(text, " \"", octets, "\"");
+    if are_escape_free_ascii(octets, b' ') {
+        return put_utf8_between(text, " \"", octets, "\"");
     }
-    put_judged_data(text, def, octets)
+    put_value_or_flaw(text, def, octets)
 }
 
-/// Appends the data of a DiameterIdentity: its value, or what is wrong with it and its octets. Clean octets aren't
-/// checked.
+/// Appends the data of a DiameterIdentity: its value, or what is wrong with it and its octets. Escape-free octets
+/// aren't checked.
 fn put_identity_data(text: &mut String, def: &AvpDef, octets: &[u8]) -> Result<(), AllocError>
     requires { def.now.kind ≡ AvpType.DiameterIdentity }
     ensures { OnOk result (string_bytes text.new ≡ string_bytes text.old ++ data_view def.now octets.now) }
 {
     if octets.is_empty() {
-        return put_judged_data(text, def, octets);
+        return put_value_or_flaw(text, def, octets);
     }
-    if are_clean(octets, b'!') {
-        return put_clean_data(text, " ", octets, "");
+    if are_escape_free_ascii(octets, b'!') {
+        return put_utf8_between(text, " ", octets, "");
     }
-    put_judged_data(text, def, octets)
+    put_value_or_flaw(text, def, octets)
 }
 
 /// Appends the data of an AVP of this definition: its value, or what is wrong with it and its octets.
 #[tactic(auto, unfolding(crate::specs::View::data_view))]
-fn put_judged_data(text: &mut String, def: &AvpDef, octets: &[u8]) -> Result<(), AllocError>
+fn put_value_or_flaw(text: &mut String, def: &AvpDef, octets: &[u8]) -> Result<(), AllocError>
     requires { def.now.kind ≢ AvpType.Grouped }
     ensures { OnOk result (string_bytes text.new ≡ string_bytes text.old ++ data_view def.now octets.now) }
 {
     match value_fault(def.kind, octets) {
-        Some(fault) => put_flaw(text, fault, octets),
+        Some(fault) => put_flaw_and_hexadecimal(text, fault, octets),
         None => {
             text.push_str(" ")?;
             put_value(text, def, octets)
@@ -221,5 +208,5 @@ pub(crate) fn put_data(text: &mut String, def: &AvpDef, octets: &[u8]) -> Result
     if let AvpType::DiameterIdentity = def.kind {
         return put_identity_data(text, def, octets);
     }
-    put_judged_data(text, def, octets)
+    put_value_or_flaw(text, def, octets)
 }

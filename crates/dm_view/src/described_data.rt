@@ -1,4 +1,5 @@
-//! The data of an AVP that is no group, by its type, as part of a text that takes no memory (RFC 6733, 4.2 and 4.3).
+//! The data of an AVP that is no group as part of a text that takes no memory, and its IP addresses as arrays
+//! (RFC 6733, 4.2 and 4.3).
 ghost use Rattle.std.specs.Prelude.{◌≡◌, ◌≢◌, None, length};
 ghost use Rattle.std.specs.Fmt.{WritesOnOk};
 ghost use Rattle.std.specs.Option.{option_copied};
@@ -51,8 +52,8 @@ fn write_value<W: fmt::Write>(f: &mut fmt::Formatter<W>, def: &AvpDef, octets: &
         AvpType::Unsigned64 => write!(f, "{}", BigEndian::read_u64(octets)),
         AvpType::Address => write_address(f, octets),
         AvpType::Time => write_time(f, BigEndian::read_u32(octets)),
-        AvpType::UTF8String => write_text(f, octets),
-        AvpType::DiameterIdentity | AvpType::DiameterURI => write_name(f, octets),
+        AvpType::UTF8String => write_text_value(f, octets),
+        AvpType::DiameterIdentity | AvpType::DiameterURI => write_identity_or_uri(f, octets),
         AvpType::Enumerated => {
             let number = BigEndian::read_i32(octets);
             write_enumerated(f, def.values.name(number), number)
@@ -82,7 +83,7 @@ fn write_time<W: fmt::Write>(f: &mut fmt::Formatter<W>, seconds: u32) -> fmt::Re
 }
 
 /// Writes a text between `"`, or in hexadecimal where a control or a `"` stands in it.
-fn write_text<W: fmt::Write>(f: &mut fmt::Formatter<W>, octets: &[u8]) -> fmt::Result
+fn write_text_value<W: fmt::Write>(f: &mut fmt::Formatter<W>, octets: &[u8]) -> fmt::Result
     requires { flaw AvpType.UTF8String octets.now ≡ None }
     ensures { WritesOnOk W.Write.write_str_gives f.old result (quoted octets.now) f.new }
 {
@@ -93,7 +94,7 @@ fn write_text<W: fmt::Write>(f: &mut fmt::Formatter<W>, octets: &[u8]) -> fmt::R
 }
 
 /// Writes an identity or a URI as it is where it is UTF-8, else in hexadecimal.
-fn write_name<W: fmt::Write>(f: &mut fmt::Formatter<W>, octets: &[u8]) -> fmt::Result
+fn write_identity_or_uri<W: fmt::Write>(f: &mut fmt::Formatter<W>, octets: &[u8]) -> fmt::Result
     ensures { WritesOnOk W.Write.write_str_gives f.old result (name_text octets.now) f.new }
 {
     match str::from_utf8(octets) {

@@ -12,10 +12,10 @@ ghost use Rattle.dm_view.specs.Check.{step_text, without_data, failed_length, fr
 ghost use Rattle.dm_view.specs.Results.{result_text};
 ghost use Rattle.dm_view.specs.Check.{failed_view, fault_line, verdict_words, are_none, check_view};
 
-use crate::avps::{put_avp_front, put_avp_name};
-use crate::header::put_header;
+use crate::avps::{put_avp_name, put_avp_without_data};
+use crate::header::put_header_line;
 use crate::reasons::{Reason, ReasonBehind};
-use crate::results::result_name;
+use crate::results::result_code_name;
 use crate::texts_and_numbers::put_words_and_number;
 use dm_dict::codes::MISSING_AVP;
 use dm_dict::{AvpDef, Dictionary, Failed, LocatedFault, NoMemory, Step};
@@ -25,7 +25,7 @@ use std::alloc::{AllocError, Global};
 
 /// Appends a group round an AVP: its name, and which of that name it is in its list.
 #[tactic(auto, unfolding(crate::specs::Check::step_text))]
-fn put_step(text: &mut String, dictionary: &Dictionary, step: &Step) -> Result<(), AllocError>
+fn put_path_step(text: &mut String, dictionary: &Dictionary, step: &Step) -> Result<(), AllocError>
     ensures { OnOk result (string_bytes text.new ≡ string_bytes text.old ++ step_text dictionary.now.avps step.now) }
 {
     text.push_str(" ")?;
@@ -42,14 +42,14 @@ fn put_path(text: &mut String, dictionary: &Dictionary, path: &[Step]) -> Result
 {
     let mut left = path;
     while let [step, rest @ ..] = left {
-        put_step(text, dictionary, step)?;
+        put_path_step(text, dictionary, step)?;
         left = rest;
     }
     Ok(())
 }
 
 /// The failed AVP without its data; None where the fault names no AVP.
-pub(crate) fn failed_without_data(failed: Failed<'_>) -> Option<AvpRef<'_>>
+pub(crate) fn failed_avp_without_data(failed: Failed<'_>) -> Option<AvpRef<'_>>
     ensures { option_map avp_of result ≡ option_map without_data (failed_of failed.entry) }
 {
     match failed {
@@ -66,7 +66,7 @@ pub(crate) fn failed_without_data(failed: Failed<'_>) -> Option<AvpRef<'_>>
 }
 
 /// How many octets the data of the failed AVP has; 0 where the fault names no AVP.
-pub(crate) fn failed_data_length(failed: Failed<'_>) -> usize
+pub(crate) fn failed_avp_data_length(failed: Failed<'_>) -> usize
     ensures { result ≡ failed_length (failed_of failed.entry) }
 {
     match failed {
@@ -77,7 +77,7 @@ pub(crate) fn failed_data_length(failed: Failed<'_>) -> usize
 }
 
 /// Appends a failed AVP, whose data has this length: that it is lacking, or its front and why it is a fault.
-fn put_failed_words(
+fn put_failed_avp_and_reason(
     text: &mut String,
     def: Option<&AvpDef>,
     code: u32,
@@ -89,17 +89,17 @@ fn put_failed_words(
 {
     if code == MISSING_AVP {
         text.push_str(" lacks ")?;
-        return put_avp_front(text, def, avp);
+        return put_avp_without_data(text, def, avp);
     }
     text.push_str(" ")?;
-    put_avp_front(text, def, avp)?;
+    put_avp_without_data(text, def, avp)?;
     let kind = def.map(|def| def.kind);
     let reason = Reason { code, kind, length };
     write!(text, "{}", ReasonBehind(reason))
 }
 
-/// Appends a failed AVP, where there is one.
-fn put_failed_if_any(
+/// Appends a failed AVP and why it is a fault, where there is one.
+fn put_any_failed_avp_and_reason(
     text: &mut String,
     dictionary: &Dictionary,
     code: u32,
@@ -113,20 +113,20 @@ fn put_failed_if_any(
         return Ok(());
     };
     let def = dictionary.avp_by_code(avp.code, avp.vendor);
-    put_failed_words(text, def, code, length, avp)
+    put_failed_avp_and_reason(text, def, code, length, avp)
 }
 
 /// Appends a Result-Code with its name, two spaces before it.
-fn put_result_code(text: &mut String, code: u32) -> Result<(), AllocError>
+fn put_result_code_and_name(text: &mut String, code: u32) -> Result<(), AllocError>
     ensures { OnOk result (string_bytes text.new ≡ string_bytes text.old ++ (codes "  " ++ result_text code)) }
 {
     put_words_and_number(text, "  ", code)?;
     text.push_str(" ")?;
-    text.push_str(result_name(code))
+    text.push_str(result_code_name(code))
 }
 
 /// Appends the line of a fault.
-fn put_fault(
+fn put_fault_line(
     text: &mut String,
     dictionary: &Dictionary,
     fault: &LocatedFault<'_>,
@@ -135,16 +135,22 @@ fn put_fault(
         ≡ string_bytes text.old ++ fault_line dictionary.now.avps (told_at fault.now)) }
 {
     let (code, failed) = (fault.fault.code, fault.fault.failed);
-    put_result_code(text, code)?;
+    put_result_code_and_name(text, code)?;
     put_path(text, dictionary, fault.path.as_slice())?;
-    let length = failed_data_length(failed);
-    put_failed_if_any(text, dictionary, code, length, failed_without_data(failed))?;
+    let length = failed_avp_data_length(failed);
+    put_any_failed_avp_and_reason(
+        text,
+        dictionary,
+        code,
+        length,
+        failed_avp_without_data(failed),
+    )?;
     text.push_str("\n")?;
     Ok(())
 }
 
 /// Appends the lines of faults, one after the other.
-fn put_faults(
+fn put_fault_lines(
     text: &mut String,
     dictionary: &Dictionary,
     faults: &[LocatedFault<'_>],
@@ -154,14 +160,14 @@ fn put_faults(
 {
     let mut left = faults;
     while let [fault, rest @ ..] = left {
-        put_fault(text, dictionary, fault)?;
+        put_fault_line(text, dictionary, fault)?;
         left = rest;
     }
     Ok(())
 }
 
 /// Appends `good ` and returns true where there are no faults; else `bad ` and false.
-fn put_verdict(text: &mut String, faults: &[LocatedFault<'_>]) -> Result<bool, AllocError>
+fn put_verdict_word(text: &mut String, faults: &[LocatedFault<'_>]) -> Result<bool, AllocError>
     ensures shown { OnOk result (string_bytes text.new
         ≡ string_bytes text.old ++ verdict_words (map told_at faults.now)) }
     ensures good { IfOk result (λ good. good ≡ are_none (map told_at faults.now)) }
@@ -179,7 +185,7 @@ fn put_verdict(text: &mut String, faults: &[LocatedFault<'_>]) -> Result<bool, A
 }
 
 /// Appends `good` or `bad`, the header of a message and a line for each of its faults. True where there are none.
-fn put_check_of_faults(
+fn put_verdict_header_and_found_faults(
     text: &mut String,
     dictionary: &Dictionary,
     message: &MessageRef<'_>,
@@ -191,15 +197,15 @@ fn put_check_of_faults(
         ++ check_view dictionary.now (record { header = message.now.header; avps = l })) }
     ensures good { IfOk result (λ good. good ≡ are_none (map told_at faults.now)) }
 {
-    let good = put_verdict(text, faults)?;
-    put_header(text, dictionary, &message.header)?;
-    put_faults(text, dictionary, faults)?;
+    let good = put_verdict_word(text, faults)?;
+    put_header_line(text, dictionary, &message.header)?;
+    put_fault_lines(text, dictionary, faults)?;
     Ok(good)
 }
 
 /// Appends all that is wrong with the message by the dictionary: `good` or `bad`, its header, and a line for each fault
 /// in order. True where it is good.
-pub fn put_check(
+pub fn put_verdict_header_and_faults(
     alloc: Global,
     text: &mut String,
     dictionary: &Dictionary,
@@ -212,6 +218,6 @@ pub fn put_check(
         good ≡ are_none (located_faults dictionary.now (record { header = message.now.header; avps = l }))) }
 {
     let faults = dictionary.located_in(alloc, message)?;
-    let good = put_check_of_faults(text, dictionary, message, faults.as_slice())?;
+    let good = put_verdict_header_and_found_faults(text, dictionary, message, faults.as_slice())?;
     Ok(good)
 }

@@ -4,7 +4,7 @@ ghost use Rattle.std.specs.Option.{option_copied};
 ghost use Rattle.std.specs.String.{string_bytes};
 ghost use Rattle.dm_view.specs.View.{command_name, command_of, flag_words, both_text, header_view};
 
-use crate::texts_and_numbers::{put_octets_name, put_words_and_number};
+use crate::texts_and_numbers::{put_name_or_hexadecimal, put_words_and_number};
 use dm_dict::{CommandDef, Dictionary};
 use dm_text::put_hexadecimal;
 use dm_wire::Header;
@@ -15,7 +15,7 @@ fn put_command_name(text: &mut String, def: Option<&CommandDef>) -> Result<(), A
     ensures { OnOk result (string_bytes text.new ≡ string_bytes text.old ++ command_name (option_copied def.entry)) }
 {
     match def {
-        Some(def) => put_octets_name(text, def.name.as_slice()),
+        Some(def) => put_name_or_hexadecimal(text, def.name.as_slice()),
         None => text.push_str("?"),
     }
 }
@@ -57,7 +57,7 @@ fn put_flag_words(text: &mut String, header: &Header) -> Result<(), AllocError>
 }
 
 /// Appends words, and a number in decimal and in hexadecimal.
-fn put_decimal_and_hexadecimal(
+fn put_words_decimal_and_hexadecimal(
     text: &mut String,
     words: &str,
     number: u32,
@@ -73,7 +73,7 @@ fn put_decimal_and_hexadecimal(
 
 /// Appends the line of a header: the command's name, code, flags in words, application and identifiers.
 #[tactic(auto, unfolding(crate::specs::View::header_view))]
-pub fn put_header(
+pub fn put_header_line(
     text: &mut String,
     dictionary: &Dictionary,
     header: &Header,
@@ -88,8 +88,8 @@ pub fn put_header(
     put_words_and_number(text, " ", header.command)?;
     put_flag_words(text, header)?;
     put_words_and_number(text, ", application ", header.application)?;
-    put_decimal_and_hexadecimal(text, ", hop-by-hop ", header.hop_id)?;
-    put_decimal_and_hexadecimal(text, ", end-to-end ", header.end_id)?;
+    put_words_decimal_and_hexadecimal(text, ", hop-by-hop ", header.hop_id)?;
+    put_words_decimal_and_hexadecimal(text, ", end-to-end ", header.end_id)?;
     text.push_str("\n")?;
     Ok(())
 }

@@ -10,49 +10,51 @@ ghost use Rattle.dm_dict.specs.Rules.{definition};
 ghost use Rattle.dm_view.specs.JsonWords.{name_json, text_json};
 ghost use Rattle.dm_view.specs.JsonView.{avp_words, front_members, avp_json, behind_json, group_json, avps_items};
 
-use crate::clean::are_clean;
-use crate::json_data::put_data;
-use crate::json_octets_and_texts::{put_flaw, put_octets, put_text, put_vendor};
+use crate::clean::are_escape_free_ascii;
+use crate::json_data::put_json_data;
+use crate::json_octets_and_texts::{
+    put_flaw_and_octets_object, put_octets_object, put_text_or_octets, put_vendor_member_if_any,
+};
 use crate::json_text::JsonText;
 use dm_dict::{AvpDef, AvpType, Dictionary};
 use dm_wire::{AvpRef, AvpsRef, spells_avps};
 use std::alloc::AllocError;
 use std::str;
 
-/// Appends the name of a definition, as a member.
-fn put_defined_name(json: &mut JsonText, name: &[u8]) -> Result<(), AllocError>
+/// Appends the name of a definition, as a member `name`.
+fn put_defined_avp_name_member(json: &mut JsonText, name: &[u8]) -> Result<(), AllocError>
     ensures { OnOk result (json.new ≡ json.old ++ key (codes "name") ∷ json_tokens (text_json name.now)) }
 {
-    if are_clean(name, b' ') {
-        return json.clean_name_member(unsafe { str::from_utf8_unchecked(name) });
+    if are_escape_free_ascii(name, b' ') {
+        return json.put_avp_name_member_as_is(unsafe { str::from_utf8_unchecked(name) });
     }
-    json.key("name")?;
-    put_text(json, name)
+    json.put_key("name")?;
+    put_text_or_octets(json, name)
 }
 
-/// Appends the name of an AVP as a member, `null` where it has no definition.
-fn put_name_member(json: &mut JsonText, def: Option<&AvpDef>) -> Result<(), AllocError>
+/// Appends the name of an AVP as a member `name`, `null` where it has no definition.
+fn put_avp_name_member(json: &mut JsonText, def: Option<&AvpDef>) -> Result<(), AllocError>
     ensures { OnOk result (json.new ≡ json.old ++ key (codes "name")
         ∷ json_tokens (name_json (option_map (λ d. d.name) (option_copied def.entry)))) }
 {
     match def {
-        Some(def) => put_defined_name(json, def.name.as_slice()),
+        Some(def) => put_defined_avp_name_member(json, def.name.as_slice()),
         None => {
-            json.key("name")?;
-            json.null()
+            json.put_key("name")?;
+            json.put_null()
         }
     }
 }
 
-/// Appends the flags of an AVP in words, as a member.
-fn put_avp_flags(json: &mut JsonText, avp: AvpRef<'_>) -> Result<(), AllocError>
+/// Appends the flags of an AVP in words, as a member `flags`.
+fn put_flags_member_of(json: &mut JsonText, avp: AvpRef<'_>) -> Result<(), AllocError>
     ensures { OnOk result (json.new ≡ json.old ++ key (codes "flags") ∷ json_tokens (avp_words (avp_of avp.entry))) }
 {
-    json.flags_member(avp.vendor.is_some(), avp.mandatory, avp.protected)
+    json.put_avp_flags_member(avp.vendor.is_some(), avp.mandatory, avp.protected)
 }
 
-/// Appends name, code, vendor and flags of an AVP.
-pub(crate) fn put_json_avp_front(
+/// Appends name, code, vendor and flags of an AVP, as members of an object that is open.
+pub(crate) fn put_avp_members_without_data(
     json: &mut JsonText,
     def: Option<&AvpDef>,
     avp: AvpRef<'_>,
@@ -60,15 +62,15 @@ pub(crate) fn put_json_avp_front(
     ensures { (more : Members) → OnOk result (json.new ++ members_tokens more
         ≡ json.old ++ members_tokens (front_members (option_copied def.entry) (avp_of avp.entry) more)) }
 {
-    put_name_member(json, def)?;
-    json.code_member(avp.code)?;
-    put_vendor(json, avp.vendor)?;
-    put_avp_flags(json, avp)
+    put_avp_name_member(json, def)?;
+    json.put_avp_code_member(avp.code)?;
+    put_vendor_member_if_any(json, avp.vendor)?;
+    put_flags_member_of(json, avp)
 }
 
-/// Appends an AVP, inside which so many groups may stand.
+/// Appends an AVP as an object, inside which so many groups may stand.
 #[cycle(telling)]
-fn put_avp(
+fn put_avp_object(
     json: &mut JsonText,
     dictionary: &Dictionary,
     avp: AvpRef<'_>,
@@ -79,8 +81,8 @@ fn put_avp(
 {
     let def = dictionary.avp_by_code(avp.code, avp.vendor);
     json.begin_object()?;
-    put_json_avp_front(json, def, avp)?;
-    json.value_key()?;
+    put_avp_members_without_data(json, def, avp)?;
+    json.put_avp_value_key()?;
     put_avp_data(json, dictionary, def, avp.bytes, depth)?;
     json.end_object()
 }
@@ -98,17 +100,17 @@ fn put_avp_data(
         (option_copied def.entry) octets.now)) }
 {
     let Some(def) = def else {
-        return put_octets(json, octets);
+        return put_octets_object(json, octets);
     };
     if let AvpType::Grouped = def.kind {
-        return put_group(json, dictionary, octets, depth);
+        return put_group_data(json, dictionary, octets, depth);
     }
-    put_data(json, def, octets)
+    put_json_data(json, def, octets)
 }
 
 /// Appends the members of a group, where so many groups may stand inside each other.
 #[cycle(telling)]
-fn put_group(
+fn put_group_data(
     json: &mut JsonText,
     dictionary: &Dictionary,
     octets: &[u8],
@@ -117,19 +119,19 @@ fn put_group(
     ensures { OnOk result (json.new ≡ json.old ++ json_tokens (group_json depth dictionary.now.avps octets.now)) }
 {
     if depth == 0 {
-        return put_flaw(json, "too deep", octets);
+        return put_flaw_and_octets_object(json, "too deep", octets);
     }
     if !spells_avps(octets) {
-        return put_flaw(json, "wrong length", octets);
+        return put_flaw_and_octets_object(json, "wrong length", octets);
     }
     json.begin_array()?;
     let members = AvpsRef::Spelled(octets);
-    put_avps_and_close(json, dictionary, members, depth - 1)
+    put_avps_and_end_array(json, dictionary, members, depth - 1)
 }
 
 /// Appends AVPs, where so many groups may stand inside each other, and the end of their array.
 #[cycle(telling)]
-pub(crate) fn put_avps_and_close(
+pub(crate) fn put_avps_and_end_array(
     json: &mut JsonText,
     dictionary: &Dictionary,
     list: AvpsRef<'_>,
@@ -140,7 +142,7 @@ pub(crate) fn put_avps_and_close(
 {
     let mut left = list;
     while let Some((avp, rest)) = left.split_first() {
-        put_avp(json, dictionary, avp, depth)?;
+        put_avp_object(json, dictionary, avp, depth)?;
         left = rest;
     }
     json.end_array()

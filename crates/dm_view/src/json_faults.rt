@@ -14,13 +14,13 @@ ghost use Rattle.dm_view.specs.Check.{are_none};
 ghost use Rattle.dm_view.specs.JsonCheck.{failed_words, failed_members_by, failed_members};
 ghost use Rattle.dm_view.specs.JsonCheck.{fault_json, faults_items, verdict_json, check_members};
 
-use crate::faults::{failed_data_length, failed_without_data};
-use crate::json_avps::put_json_avp_front;
-use crate::json_header::put_json_header;
-use crate::json_path::put_path_and_close;
+use crate::faults::{failed_avp_data_length, failed_avp_without_data};
+use crate::json_avps::put_avp_members_without_data;
+use crate::json_header::put_header_object;
+use crate::json_path::put_path_and_end_array;
 use crate::json_text::JsonText;
 use crate::reasons::Reason;
-use crate::results::result_name;
+use crate::results::result_code_name;
 use dm_dict::codes::MISSING_AVP;
 use dm_dict::{AvpDef, Dictionary, LocatedFault, NoMemory};
 use dm_wire::{AvpRef, MessageRef};
@@ -42,8 +42,9 @@ fn fault_reason(
     format!(in alloc; "{}", Reason { code, kind, length })
 }
 
-/// Appends a failed AVP, whose data has this length, and why it is a fault, and the end of the fault.
-fn put_failed_avp_and_close(
+/// Ends the object of a fault with its failed AVP, whose data has this length, and why that is one: members `avp` and
+/// `reason`.
+fn end_fault_with_avp_and_reason(
     alloc: Global,
     json: &mut JsonText,
     code: u32,
@@ -54,17 +55,17 @@ fn put_failed_avp_and_close(
     ensures { OnOk result (json.new ≡ json.old
         ++ members_tokens (failed_members_by code (option_copied def.entry) length (avp_of avp.entry))) }
 {
-    json.key("avp")?;
+    json.put_key("avp")?;
     json.begin_object()?;
-    put_json_avp_front(json, def, avp)?;
+    put_avp_members_without_data(json, def, avp)?;
     json.end_object()?;
     let words = fault_reason(alloc, code, def, length)?;
-    json.text_member("reason", words.as_str())?;
+    json.put_text_member("reason", words.as_str())?;
     json.end_object()
 }
 
-/// Appends the failed AVP, nothing where there is none, and the end of the fault.
-fn put_failed_and_close(
+/// Ends the object of a fault with its failed AVP and why that is one; with nothing where there is none.
+fn end_fault_with_failed_avp_if_any(
     alloc: Global,
     json: &mut JsonText,
     dictionary: &Dictionary,
@@ -79,12 +80,12 @@ fn put_failed_and_close(
         return json.end_object();
     };
     let def = dictionary.avp_by_code(avp.code, avp.vendor);
-    put_failed_avp_and_close(alloc, json, code, def, length, avp)
+    end_fault_with_avp_and_reason(alloc, json, code, def, length, avp)
 }
 
-/// Appends a fault.
+/// Appends a fault as an object.
 #[tactic(auto, unfolding(crate::specs::JsonCheck::fault_json))]
-fn put_fault(
+fn put_fault_object(
     alloc: Global,
     json: &mut JsonText,
     dictionary: &Dictionary,
@@ -94,25 +95,25 @@ fn put_fault(
 {
     let (code, failed) = (fault.fault.code, fault.fault.failed);
     json.begin_object()?;
-    json.number_member("code", code)?;
-    json.text_member("name", result_name(code))?;
-    json.key("path")?;
+    json.put_number_member("code", code)?;
+    json.put_text_member("name", result_code_name(code))?;
+    json.put_key("path")?;
     json.begin_array()?;
-    put_path_and_close(json, dictionary, fault.path.as_slice())?;
-    let length = failed_data_length(failed);
-    put_failed_and_close(
+    put_path_and_end_array(json, dictionary, fault.path.as_slice())?;
+    let length = failed_avp_data_length(failed);
+    end_fault_with_failed_avp_if_any(
         alloc,
         json,
         dictionary,
         code,
         length,
-        failed_without_data(failed),
+        failed_avp_without_data(failed),
     )?;
     Ok(())
 }
 
 /// Appends faults, one after the other, and the end of their array.
-fn put_faults_and_close(
+fn put_faults_and_end_array(
     alloc: Global,
     json: &mut JsonText,
     dictionary: &Dictionary,
@@ -123,21 +124,21 @@ fn put_faults_and_close(
 {
     let mut left = faults;
     while let [fault, rest @ ..] = left {
-        put_fault(alloc, json, dictionary, fault)?;
+        put_fault_object(alloc, json, dictionary, fault)?;
         left = rest;
     }
     json.end_array()
 }
 
 /// Appends the member `verdict`: `good` or `bad`.
-pub fn put_json_verdict(json: &mut JsonText, good: bool) -> Result<(), AllocError>
+pub fn put_verdict_member(json: &mut JsonText, good: bool) -> Result<(), AllocError>
     ensures { OnOk result (json.new ≡ json.old ++ key (codes "verdict") ∷ json_tokens (verdict_json good)) }
 {
-    json.text_member("verdict", if good { "good" } else { "bad" })
+    json.put_text_member("verdict", if good { "good" } else { "bad" })
 }
 
 /// Appends whether a message of these faults is good, its header and the faults.
-fn put_json_check_of_faults(
+fn put_json_verdict_header_and_found_faults(
     alloc: Global,
     json: &mut JsonText,
     dictionary: &Dictionary,
@@ -149,18 +150,18 @@ fn put_json_check_of_faults(
         → (more : Members) → OnOk result (json.new ++ members_tokens more ≡ json.old ++ members_tokens
         (check_members dictionary.now (record { header = message.now.header; avps = l }) more)) }
 {
-    put_json_verdict(json, faults.is_empty())?;
-    json.key("header")?;
-    put_json_header(json, dictionary, &message.header)?;
-    json.key("faults")?;
+    put_verdict_member(json, faults.is_empty())?;
+    json.put_key("header")?;
+    put_header_object(json, dictionary, &message.header)?;
+    json.put_key("faults")?;
     json.begin_array()?;
-    put_faults_and_close(alloc, json, dictionary, faults)?;
+    put_faults_and_end_array(alloc, json, dictionary, faults)?;
     Ok(())
 }
 
 /// Appends all that is wrong with the message by the dictionary, as members of an object that is open: whether it is
 /// good, its header, and each fault in order. True where it is good.
-pub fn put_json_check(
+pub fn put_json_verdict_header_and_faults(
     alloc: Global,
     json: &mut JsonText,
     dictionary: &Dictionary,
@@ -175,7 +176,13 @@ pub fn put_json_check(
 {
     let faults = dictionary.located_in(alloc, message)?;
     let good = faults.is_empty();
-    let done = put_json_check_of_faults(alloc, json, dictionary, message, faults.as_slice());
+    let done = put_json_verdict_header_and_found_faults(
+        alloc,
+        json,
+        dictionary,
+        message,
+        faults.as_slice(),
+    );
     drop(faults);
     done?;
     Ok(good)

@@ -5,35 +5,35 @@ ghost use Rattle.json.specs.Tree.{json_tokens, members_tokens};
 ghost use Rattle.dm_view.specs.JsonView.{command_json, kind_words, header_words, identifiers, header_json};
 ghost use Rattle.dm_view.specs.View.{command_of};
 
-use crate::json_octets_and_texts::{put_name, put_word_if_meant};
+use crate::json_octets_and_texts::{put_name_or_null, put_word_if_meant};
 use crate::json_text::JsonText;
 use dm_dict::{CommandDef, Dictionary};
 use dm_wire::Header;
 use std::alloc::AllocError;
 
 /// Appends the name of a command, `null` where it has no definition.
-fn put_json_command_name(json: &mut JsonText, def: Option<&CommandDef>) -> Result<(), AllocError>
+fn put_command_name_or_null(json: &mut JsonText, def: Option<&CommandDef>) -> Result<(), AllocError>
     ensures { OnOk result (json.new ≡ json.old ++ json_tokens (command_json (option_copied def.entry))) }
 {
     match def {
-        Some(def) => put_name(json, Some(&def.name)),
-        None => put_name(json, None),
+        Some(def) => put_name_or_null(json, Some(&def.name)),
+        None => put_name_or_null(json, None),
     }
 }
 
 /// The word for whether the header is a request's or an answer's.
-fn request_or_answer(header: &Header) -> &'static str
+fn request_or_answer_word(header: &Header) -> &'static str
     ensures { result.now ≡ kind_words header.now }
 {
     if header.request { "request" } else { "answer" }
 }
 
-/// Appends the flags of a header in words.
-fn put_json_flag_words(json: &mut JsonText, header: &Header) -> Result<(), AllocError>
+/// Appends the flags of a header in words, as an array.
+fn put_flag_words_array(json: &mut JsonText, header: &Header) -> Result<(), AllocError>
     ensures { OnOk result (json.new ≡ json.old ++ json_tokens (header_words header.now)) }
 {
     json.begin_array()?;
-    json.string(request_or_answer(header))?;
+    json.put_string(request_or_answer_word(header))?;
     put_word_if_meant(json, header.proxiable, "proxiable")?;
     put_word_if_meant(json, header.error, "error")?;
     put_word_if_meant(json, header.retransmit, "retransmitted")?;
@@ -42,19 +42,19 @@ fn put_json_flag_words(json: &mut JsonText, header: &Header) -> Result<(), Alloc
 }
 
 /// Appends the application and the identifiers of a header, and the end of its object.
-fn put_identifiers_and_close(json: &mut JsonText, header: &Header) -> Result<(), AllocError>
+fn put_identifiers_and_end_object(json: &mut JsonText, header: &Header) -> Result<(), AllocError>
     ensures { OnOk result (json.new ≡ json.old ++ members_tokens (identifiers header.now)) }
 {
-    json.number_behind_key("\"application\":", header.application)?;
-    json.number_behind_key("\"hop_by_hop\":", header.hop_id)?;
-    json.number_behind_key("\"end_to_end\":", header.end_id)?;
+    json.put_printed_key_and_number("\"application\":", header.application)?;
+    json.put_printed_key_and_number("\"hop_by_hop\":", header.hop_id)?;
+    json.put_printed_key_and_number("\"end_to_end\":", header.end_id)?;
     json.end_object()?;
     Ok(())
 }
 
-/// Appends a header: the command's name, code, flags in words, application and identifiers.
+/// Appends a header as an object: the command's name, code, flags in words, application and identifiers.
 #[tactic(auto, unfolding(crate::specs::JsonView::header_json))]
-pub fn put_json_header(
+pub fn put_header_object(
     json: &mut JsonText,
     dictionary: &Dictionary,
     header: &Header,
@@ -64,11 +64,11 @@ pub fn put_json_header(
 {
     let def = dictionary.command(header.command, header.request, false);
     json.begin_object()?;
-    json.key("command")?;
-    put_json_command_name(json, def)?;
-    json.number_member("code", header.command)?;
-    json.key("flags")?;
-    put_json_flag_words(json, header)?;
-    put_identifiers_and_close(json, header)?;
+    json.put_key("command")?;
+    put_command_name_or_null(json, def)?;
+    json.put_number_member("code", header.command)?;
+    json.put_key("flags")?;
+    put_flag_words_array(json, header)?;
+    put_identifiers_and_end_object(json, header)?;
     Ok(())
 }

@@ -8,7 +8,7 @@ ghost use Rattle.json.specs.Token.{Token, begin_object, end_object, begin_array,
 ghost use Rattle.json.specs.Token.{key, string, number, null};
 ghost use Rattle.dm_view.specs.JsonPrinted.{IsPrintedAs};
 
-use crate::clean::are_clean;
+use crate::clean::are_escape_free_ascii;
 use itoa::Buffer;
 use json::Writer;
 use std::alloc::{AllocError, Global};
@@ -78,7 +78,7 @@ fn put_piece(text: &mut String, comma: bool, piece: &str) -> Result<(), AllocErr
 
 /// Appends three pieces, behind a comma where it is wanted.
 #[inline(always)]
-fn put_pieces(
+fn put_three_pieces(
     text: &mut String,
     comma: bool,
     front: &str,
@@ -95,7 +95,7 @@ fn put_pieces(
 
 /// A text between `"`, with its escapes.
 #[tactic(auto, unfolding(json::specs::Print::print_from))]
-fn escaped(alloc: Global, text: &str) -> Result<Vec<u8>, AllocError>
+fn quoted_json(alloc: Global, text: &str) -> Result<Vec<u8>, AllocError>
     ensures quoted { IfOk result (λ octets. octets.items ≡ quoted text.now) }
     ensures text { IfOk result (λ octets. IsUtf8 octets.items) }
 {
@@ -118,7 +118,7 @@ impl Printed {
 
     /// Appends what some tokens are printed as. (So inlined, a piece that is at hand costs no call.)
     #[inline(always)]
-    pub(crate) fn put_tokens(
+    pub(crate) fn put_tokens_in_one_piece(
         &mut self,
         begun: bool,
         piece: &str,
@@ -143,7 +143,7 @@ impl Printed {
 
     /// Appends what some tokens are printed as, in three pieces.
     #[inline(always)]
-    pub(crate) fn put_tokens_in_pieces(
+    pub(crate) fn put_tokens_in_three_pieces(
         &mut self,
         begun: bool,
         front: &str,
@@ -156,7 +156,7 @@ impl Printed {
             → OnOk result (self.new ≡ self.old ++ ts) }
     {
         let comma = wants_comma(self.after_value, begun);
-        match put_pieces(&mut self.text, comma, front, middle, back) {
+        match put_three_pieces(&mut self.text, comma, front, middle, back) {
             Ok(()) => {
                 self.after_value = ended;
                 Ok(())
@@ -173,103 +173,107 @@ impl Printed {
     pub(crate) fn begin_object(&mut self) -> Result<(), AllocError>
         ensures { OnOk result (self.new ≡ self.old ++ begin_object ∷ []) }
     {
-        self.put_tokens(true, "{", false)
+        self.put_tokens_in_one_piece(true, "{", false)
     }
 
     /// Closes an object.
     pub(crate) fn end_object(&mut self) -> Result<(), AllocError>
         ensures { OnOk result (self.new ≡ self.old ++ end_object ∷ []) }
     {
-        self.put_tokens(false, "}", true)
+        self.put_tokens_in_one_piece(false, "}", true)
     }
 
     /// Opens an array.
     pub(crate) fn begin_array(&mut self) -> Result<(), AllocError>
         ensures { OnOk result (self.new ≡ self.old ++ begin_array ∷ []) }
     {
-        self.put_tokens(true, "[", false)
+        self.put_tokens_in_one_piece(true, "[", false)
     }
 
     /// Closes an array.
     pub(crate) fn end_array(&mut self) -> Result<(), AllocError>
         ensures { OnOk result (self.new ≡ self.old ++ end_array ∷ []) }
     {
-        self.put_tokens(false, "]", true)
+        self.put_tokens_in_one_piece(false, "]", true)
     }
 
     /// Appends the name of a member, whose value follows.
-    pub(crate) fn key(&mut self, alloc: Global, name: &str) -> Result<(), AllocError>
+    pub(crate) fn put_key(&mut self, alloc: Global, name: &str) -> Result<(), AllocError>
         ensures { OnOk result (self.new ≡ self.old ++ key name.now ∷ []) }
     {
-        if are_clean(name.as_bytes(), b' ') {
-            return self.put_tokens_in_pieces(true, "\"", name, "\":", false);
+        if are_escape_free_ascii(name.as_bytes(), b' ') {
+            return self.put_tokens_in_three_pieces(true, "\"", name, "\":", false);
         }
-        let octets = escaped(alloc, name)?;
+        let octets = quoted_json(alloc, name)?;
         // What is written is text.
         let text = unsafe { str::from_utf8_unchecked(octets.as_slice()) };
-        let done = self.put_tokens_in_pieces(true, "", text, ":", false);
+        let done = self.put_tokens_in_three_pieces(true, "", text, ":", false);
         drop(octets);
         done
     }
 
     /// Appends a text that needs no escapes.
-    pub(crate) fn clean_string(&mut self, text: &str) -> Result<(), AllocError>
+    pub(crate) fn put_string_as_is(&mut self, text: &str) -> Result<(), AllocError>
         requires { escape text.now ≡ text.now }
         ensures { OnOk result (self.new ≡ self.old ++ string text.now ∷ []) }
     {
-        self.put_tokens_in_pieces(true, "\"", text, "\"", true)
+        self.put_tokens_in_three_pieces(true, "\"", text, "\"", true)
     }
 
     /// Appends a text, with its escapes.
-    pub(crate) fn string(&mut self, alloc: Global, text: &str) -> Result<(), AllocError>
+    pub(crate) fn put_string(&mut self, alloc: Global, text: &str) -> Result<(), AllocError>
         ensures { OnOk result (self.new ≡ self.old ++ string text.now ∷ []) }
     {
-        if are_clean(text.as_bytes(), b' ') {
-            return self.clean_string(text);
+        if are_escape_free_ascii(text.as_bytes(), b' ') {
+            return self.put_string_as_is(text);
         }
-        let octets = escaped(alloc, text)?;
+        let octets = quoted_json(alloc, text)?;
         // What is written is text.
         let text = unsafe { str::from_utf8_unchecked(octets.as_slice()) };
-        let done = self.put_tokens(true, text, true);
+        let done = self.put_tokens_in_one_piece(true, text, true);
         drop(octets);
         done
     }
 
     /// Appends a number from 0 on.
-    pub(crate) fn number(&mut self, value: u64) -> Result<(), AllocError>
+    pub(crate) fn put_number(&mut self, value: u64) -> Result<(), AllocError>
         ensures { OnOk result (self.new ≡ self.old ++ number (decimal value) ∷ []) }
     {
         let mut digits = Buffer::new();
-        self.put_tokens(true, digits.format(value), true)
+        self.put_tokens_in_one_piece(true, digits.format(value), true)
     }
 
     /// Appends a number, which may be below 0.
-    pub(crate) fn signed(&mut self, value: i64) -> Result<(), AllocError>
+    pub(crate) fn put_signed_number(&mut self, value: i64) -> Result<(), AllocError>
         ensures { OnOk result (self.new ≡ self.old ++ number (signed_decimal value) ∷ []) }
     {
         let mut digits = Buffer::new();
-        self.put_tokens(true, digits.format(value), true)
+        self.put_tokens_in_one_piece(true, digits.format(value), true)
     }
 
-    /// Appends a member that is a number from 0 on. `name` is its key as it is printed, as `"code":`.
-    pub(crate) fn number_behind_key(&mut self, name: &str, value: u32) -> Result<(), AllocError>
+    /// Appends a key and a number from 0 on. `name` is the key as it is printed, as `"code":`.
+    pub(crate) fn put_printed_key_and_number(
+        &mut self,
+        name: &str,
+        value: u32,
+    ) -> Result<(), AllocError>
         requires { (k : List ℕ) × (name.now ≡ token_text (key k)) }
         ensures { (k : List ℕ) → name.now ≡ token_text (key k)
             → OnOk result (self.new ≡ self.old ++ key k ∷ number (decimal value) ∷ []) }
     {
         let mut digits = Buffer::new();
-        self.put_tokens_in_pieces(true, name, digits.format(u64::from(value)), "", true)
+        self.put_tokens_in_three_pieces(true, name, digits.format(u64::from(value)), "", true)
     }
 
     /// Appends `null`.
-    pub(crate) fn null(&mut self) -> Result<(), AllocError>
+    pub(crate) fn put_null(&mut self) -> Result<(), AllocError>
         ensures { OnOk result (self.new ≡ self.old ++ null ∷ []) }
     {
-        self.put_tokens(true, "null", true)
+        self.put_tokens_in_one_piece(true, "null", true)
     }
 
     /// Appends the text so far.
-    pub(crate) fn put_printed(&self, text: &mut String) -> Result<(), AllocError>
+    pub(crate) fn put_into(&self, text: &mut String) -> Result<(), AllocError>
         ensures { OnOk result (string_bytes text.new ≡ string_bytes text.old ++ print self.now) }
     {
         text.push_str(self.text.as_str())

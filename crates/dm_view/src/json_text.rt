@@ -1,4 +1,4 @@
-//! A text in JSON, a token at a time (RFC 8259).
+//! A text in JSON, a token at a time (RFC 8259), and members of an AVP whose keys are printed as they stand here.
 ghost use Rattle.std.specs.Prelude.{◌≡◌, ◌++◌, ◌∷◌, ℕ, List, [], None, codes, OnOk};
 ghost use Rattle.std.specs.Fmt.{decimal, signed_decimal};
 ghost use Rattle.std.specs.String.{string_bytes};
@@ -40,9 +40,9 @@ impl Model for JsonText {
     ghost view = { λ text. text.printed };
 }
 
-/// What the flags of an AVP are printed as.
+/// What the member `flags` of an AVP is printed as.
 #[tactic(auto, unfolding(json::specs::Print::print_from, json::specs::Print::escape_byte))]
-fn flags_text(vendor: bool, mandatory: bool, protected: bool) -> &'static str
+fn avp_flags_member_text(vendor: bool, mandatory: bool, protected: bool) -> &'static str
     ensures { result.now ≡ print (flags_tokens vendor mandatory protected) }
 {
     match (vendor, mandatory, protected) {
@@ -98,54 +98,58 @@ impl JsonText {
     }
 
     /// Appends the name of a member, whose value follows.
-    pub fn key(&mut self, name: &str) -> Result<(), AllocError>
+    pub fn put_key(&mut self, name: &str) -> Result<(), AllocError>
         ensures { OnOk result (self.new ≡ self.old ++ key name.now ∷ []) }
     {
-        self.printed.key(self.alloc, name)
+        self.printed.put_key(self.alloc, name)
     }
 
     /// Appends a text, with its escapes.
-    pub fn string(&mut self, text: &str) -> Result<(), AllocError>
+    pub fn put_string(&mut self, text: &str) -> Result<(), AllocError>
         ensures { OnOk result (self.new ≡ self.old ++ string text.now ∷ []) }
     {
-        self.printed.string(self.alloc, text)
+        self.printed.put_string(self.alloc, text)
     }
 
     /// Appends a text that needs no escapes.
-    pub(crate) fn clean_string(&mut self, text: &str) -> Result<(), AllocError>
+    pub(crate) fn put_string_as_is(&mut self, text: &str) -> Result<(), AllocError>
         requires { escape text.now ≡ text.now }
         ensures { OnOk result (self.new ≡ self.old ++ string text.now ∷ []) }
     {
-        self.printed.clean_string(text)
+        self.printed.put_string_as_is(text)
     }
 
-    /// The name of an AVP that needs no escapes, as a member.
-    pub(crate) fn clean_name_member(&mut self, name: &str) -> Result<(), AllocError>
+    /// Appends the name of an AVP, which needs no escapes, as its member `name`.
+    pub(crate) fn put_avp_name_member_as_is(&mut self, name: &str) -> Result<(), AllocError>
         requires { escape name.now ≡ name.now }
         ensures { OnOk result (self.new ≡ self.old ++ key (codes "name") ∷ string name.now ∷ []) }
     {
         self.printed
-            .put_tokens_in_pieces(true, "\"name\":\"", name, "\"", true)
+            .put_tokens_in_three_pieces(true, "\"name\":\"", name, "\"", true)
     }
 
-    /// Appends a member that is a number from 0 on. `name` is its key as it is printed, as `"code":`.
-    pub(crate) fn number_behind_key(&mut self, name: &str, value: u32) -> Result<(), AllocError>
+    /// Appends a key and a number from 0 on. `name` is the key as it is printed, as `"code":`.
+    pub(crate) fn put_printed_key_and_number(
+        &mut self,
+        name: &str,
+        value: u32,
+    ) -> Result<(), AllocError>
         requires { (k : List ℕ) × (name.now ≡ token_text (key k)) }
         ensures { (k : List ℕ) → name.now ≡ token_text (key k)
             → OnOk result (self.new ≡ self.old ++ key k ∷ number (decimal value) ∷ []) }
     {
-        self.printed.number_behind_key(name, value)
+        self.printed.put_printed_key_and_number(name, value)
     }
 
-    /// The code of an AVP, as a member.
-    pub(crate) fn code_member(&mut self, code: u32) -> Result<(), AllocError>
+    /// Appends the code of an AVP, as its member `code`.
+    pub(crate) fn put_avp_code_member(&mut self, code: u32) -> Result<(), AllocError>
         ensures { OnOk result (self.new ≡ self.old ++ key (codes "code") ∷ number (decimal code) ∷ []) }
     {
-        self.printed.number_behind_key("\"code\":", code)
+        self.printed.put_printed_key_and_number("\"code\":", code)
     }
 
-    /// The flags of an AVP in words, as a member.
-    pub(crate) fn flags_member(
+    /// Appends the flags of an AVP in words, as its member `flags`.
+    pub(crate) fn put_avp_flags_member(
         &mut self,
         vendor: bool,
         mandatory: bool,
@@ -153,88 +157,92 @@ impl JsonText {
     ) -> Result<(), AllocError>
         ensures { OnOk result (self.new ≡ self.old ++ flags_tokens vendor mandatory protected) }
     {
-        self.printed
-            .put_tokens(true, flags_text(vendor, mandatory, protected), true)
+        self.printed.put_tokens_in_one_piece(
+            true,
+            avp_flags_member_text(vendor, mandatory, protected),
+            true,
+        )
     }
 
-    /// The key of an AVP's value.
-    pub(crate) fn value_key(&mut self) -> Result<(), AllocError>
+    /// Appends the key `value` of an AVP, whose value follows.
+    pub(crate) fn put_avp_value_key(&mut self) -> Result<(), AllocError>
         ensures { OnOk result (self.new ≡ self.old ++ key (codes "value") ∷ []) }
     {
-        self.printed.put_tokens(true, "\"value\":", false)
+        self.printed
+            .put_tokens_in_one_piece(true, "\"value\":", false)
     }
 
-    /// Octets in hexadecimal, as a text.
-    pub(crate) fn hexadecimal(&mut self, octets: &[u8]) -> Result<(), AllocError>
+    /// Appends octets in hexadecimal, as a text.
+    pub(crate) fn put_hexadecimal_string(&mut self, octets: &[u8]) -> Result<(), AllocError>
         ensures { OnOk result (self.new ≡ self.old ++ string (encode_lower octets.now) ∷ []) }
     {
         self.room.clear();
         self.room.reserve(octets.len().saturating_mul(2))?;
         put_hexadecimal(&mut self.room, octets)?;
-        self.printed.string(self.alloc, self.room.as_str())
+        self.printed.put_string(self.alloc, self.room.as_str())
     }
 
-    /// An address as text.
-    pub(crate) fn address(&mut self, octets: &[u8]) -> Result<(), AllocError>
+    /// Appends an address, as a text.
+    pub(crate) fn put_address_string(&mut self, octets: &[u8]) -> Result<(), AllocError>
         requires { flaw Address octets.now ≡ None }
         ensures { OnOk result (self.new ≡ self.old ++ string (address_text (address_in octets.now)) ∷ []) }
     {
         self.room.clear();
         put_address(&mut self.room, octets)?;
-        self.printed.string(self.alloc, self.room.as_str())
+        self.printed.put_string(self.alloc, self.room.as_str())
     }
 
-    /// The date and time of day of a time, as text.
-    pub(crate) fn date(&mut self, time: u32) -> Result<(), AllocError>
+    /// Appends the date and time of day of a time, as a text.
+    pub(crate) fn put_date_string(&mut self, time: u32) -> Result<(), AllocError>
         ensures { OnOk result (self.new ≡ self.old ++ string (utc_text (utc_at (from_1900 time))) ∷ []) }
     {
         self.room.clear();
         write!(self.room, "{}", utc_date(time))?;
-        self.printed.string(self.alloc, self.room.as_str())
+        self.printed.put_string(self.alloc, self.room.as_str())
     }
 
     /// Appends a number from 0 on.
-    pub fn number(&mut self, value: u64) -> Result<(), AllocError>
+    pub fn put_number(&mut self, value: u64) -> Result<(), AllocError>
         ensures { OnOk result (self.new ≡ self.old ++ number (decimal value) ∷ []) }
     {
-        self.printed.number(value)
+        self.printed.put_number(value)
     }
 
     /// Appends a number, which may be below 0.
-    pub fn signed(&mut self, value: i64) -> Result<(), AllocError>
+    pub fn put_signed_number(&mut self, value: i64) -> Result<(), AllocError>
         ensures { OnOk result (self.new ≡ self.old ++ number (signed_decimal value) ∷ []) }
     {
-        self.printed.signed(value)
+        self.printed.put_signed_number(value)
     }
 
     /// Appends `null`.
-    pub fn null(&mut self) -> Result<(), AllocError>
+    pub fn put_null(&mut self) -> Result<(), AllocError>
         ensures { OnOk result (self.new ≡ self.old ++ null ∷ []) }
     {
-        self.printed.null()
+        self.printed.put_null()
     }
 
     /// Appends a member that is a text.
-    pub fn text_member(&mut self, name: &str, text: &str) -> Result<(), AllocError>
+    pub fn put_text_member(&mut self, name: &str, text: &str) -> Result<(), AllocError>
         ensures { OnOk result (self.new ≡ self.old ++ key name.now ∷ string text.now ∷ []) }
     {
-        self.key(name)?;
-        self.string(text)
+        self.put_key(name)?;
+        self.put_string(text)
     }
 
     /// Appends a member that is a number from 0 on.
-    pub fn number_member(&mut self, name: &str, value: u32) -> Result<(), AllocError>
+    pub fn put_number_member(&mut self, name: &str, value: u32) -> Result<(), AllocError>
         ensures { OnOk result (self.new ≡ self.old ++ key name.now ∷ number (decimal value) ∷ []) }
     {
-        self.key(name)?;
-        self.number(u64::from(value))
+        self.put_key(name)?;
+        self.put_number(u64::from(value))
     }
 
-    /// Appends what is written as a line.
-    pub fn put_line(self, text: &mut String) -> Result<(), AllocError>
+    /// Appends what its tokens are printed as to the text, as a line.
+    pub fn put_line_into(self, text: &mut String) -> Result<(), AllocError>
         ensures { OnOk result (string_bytes text.new ≡ string_bytes text.old ++ print self ++ 10 ∷ []) }
     {
-        let done = self.printed.put_printed(text);
+        let done = self.printed.put_into(text);
         drop(self);
         done?;
         text.push_str("\n")

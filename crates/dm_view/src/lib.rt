@@ -25,11 +25,11 @@ mod results;
 mod texts_and_numbers;
 
 pub use avp_description::{AvpDescription, describe};
-pub use faults::put_check;
-pub use header::put_header;
-pub use json_faults::{put_json_check, put_json_verdict};
-pub use json_header::put_json_header;
-pub use json_message::put_json_message;
+pub use faults::put_verdict_header_and_faults;
+pub use header::put_header_line;
+pub use json_faults::{put_json_verdict_header_and_faults, put_verdict_member};
+pub use json_header::put_header_object;
+pub use json_message::put_message_members;
 pub use json_text::JsonText;
 pub use message::put_message;
 pub use results::ResultName;

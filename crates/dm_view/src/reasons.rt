@@ -10,7 +10,7 @@ use dm_dict::{AvpType, least_len};
 use std::fmt;
 
 /// What stands before the least length of a type: `, at least ` where its data may be longer, else `, not `.
-fn bound_words(kind: AvpType) -> &'static str
+fn words_before_least_length(kind: AvpType) -> &'static str
     ensures { result.now ≡ bound_words kind }
 {
     match kind {
@@ -47,7 +47,7 @@ impl fmt::Display for LengthWords {
                 f,
                 "length {}{}{}",
                 self.length,
-                bound_words(kind),
+                words_before_least_length(kind),
                 least_len(kind)
             ),
         }

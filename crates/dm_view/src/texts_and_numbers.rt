@@ -41,7 +41,7 @@ fn are_quotable(octets: &[u8]) -> bool
 
 /// Appends octets that are text between `"`, or in hexadecimal where a control or a `"` stands in them.
 #[tactic(auto, unfolding(crate::specs::Words::quoted))]
-pub(crate) fn put_quoted(text: &mut String, octets: &[u8]) -> Result<(), AllocError>
+pub(crate) fn put_quoted_or_hexadecimal(text: &mut String, octets: &[u8]) -> Result<(), AllocError>
     requires { IsUtf8 octets.now }
     ensures { OnOk result (string_bytes text.new ≡ string_bytes text.old ++ quoted octets.now) }
 {
@@ -54,19 +54,36 @@ pub(crate) fn put_quoted(text: &mut String, octets: &[u8]) -> Result<(), AllocEr
     }
 }
 
+/// Appends octets that are UTF-8, as they are, between `front` and `back`.
+pub(crate) fn put_utf8_between(
+    text: &mut String,
+    front: &str,
+    octets: &[u8],
+    back: &str,
+) -> Result<(), AllocError>
+    requires { IsUtf8 octets.now }
+    ensures { OnOk result (string_bytes text.new
+        ≡ string_bytes text.old ++ (front.now ++ (octets.now ++ back.now))) }
+{
+    let words = unsafe { str::from_utf8_unchecked(octets) };
+    text.push_str(front)?;
+    text.push_str(words)?;
+    text.push_str(back)
+}
+
 /// Appends a name as it is where it is UTF-8, else in hexadecimal. Most names are ASCII.
-pub(crate) fn put_octets_name(text: &mut String, octets: &[u8]) -> Result<(), AllocError>
+pub(crate) fn put_name_or_hexadecimal(text: &mut String, octets: &[u8]) -> Result<(), AllocError>
     ensures { OnOk result (string_bytes text.new ≡ string_bytes text.old ++ name_text octets.now) }
 {
     if octets.is_ascii() {
         // ASCII is UTF-8.
         return text.push_str(unsafe { str::from_utf8_unchecked(octets) });
     }
-    put_name_or_hexadecimal(text, octets)
+    put_checked_name_or_hexadecimal(text, octets)
 }
 
 /// Appends a name as it is where it is UTF-8, else in hexadecimal.
-fn put_name_or_hexadecimal(text: &mut String, octets: &[u8]) -> Result<(), AllocError>
+fn put_checked_name_or_hexadecimal(text: &mut String, octets: &[u8]) -> Result<(), AllocError>
     ensures { OnOk result (string_bytes text.new ≡ string_bytes text.old ++ name_text octets.now) }
 {
     match str::from_utf8(octets) {
@@ -76,7 +93,7 @@ fn put_name_or_hexadecimal(text: &mut String, octets: &[u8]) -> Result<(), Alloc
 }
 
 /// Appends octets in hexadecimal, `-` where there are none.
-pub(crate) fn put_octets(text: &mut String, octets: &[u8]) -> Result<(), AllocError>
+pub(crate) fn put_hexadecimal_or_dash(text: &mut String, octets: &[u8]) -> Result<(), AllocError>
     ensures { OnOk result (string_bytes text.new ≡ string_bytes text.old ++ data_text octets.now) }
 {
     match octets {
@@ -86,7 +103,7 @@ pub(crate) fn put_octets(text: &mut String, octets: &[u8]) -> Result<(), AllocEr
 }
 
 /// Appends words, and octets in hexadecimal, `-` where there are none.
-pub(crate) fn put_words_and_octets(
+pub(crate) fn put_words_and_hexadecimal(
     text: &mut String,
     words: &str,
     octets: &[u8],
@@ -94,11 +111,11 @@ pub(crate) fn put_words_and_octets(
     ensures { OnOk result (string_bytes text.new ≡ string_bytes text.old ++ words.now ++ data_text octets.now) }
 {
     text.push_str(words)?;
-    put_octets(text, octets)
+    put_hexadecimal_or_dash(text, octets)
 }
 
 /// Appends a number from 0 on in decimal.
-pub(crate) fn put_unsigned(text: &mut String, number: u64) -> Result<(), AllocError>
+pub(crate) fn put_unsigned_number(text: &mut String, number: u64) -> Result<(), AllocError>
     ensures { OnOk result (string_bytes text.new ≡ string_bytes text.old ++ decimal number) }
 {
     let mut digits = Buffer::new();
@@ -114,11 +131,11 @@ pub(crate) fn put_words_and_number(
     ensures { OnOk result (string_bytes text.new ≡ string_bytes text.old ++ words.now ++ decimal number) }
 {
     text.push_str(words)?;
-    put_unsigned(text, u64::from(number))
+    put_unsigned_number(text, u64::from(number))
 }
 
 /// Appends a number in decimal, behind `-` where it is below 0.
-pub(crate) fn put_signed(text: &mut String, number: i64) -> Result<(), AllocError>
+pub(crate) fn put_signed_number(text: &mut String, number: i64) -> Result<(), AllocError>
     ensures { OnOk result (string_bytes text.new ≡ string_bytes text.old ++ signed_decimal number) }
 {
     let mut room = Buffer::new();

@@ -10,11 +10,11 @@ ghost use Rattle.dm_view_lines.specs.Turns.{TellsLines, StopsInTurn, Settles};
 ghost use Rattle.dm_view_lines.specs.Came.{goes_further};
 
 use crate::gathered_lines::Output;
-use crate::lines_in_pieces::{Seam, gather_last_line, gather_piece};
+use crate::lines_in_pieces::{Seam, say_and_gather_last_line, say_and_gather_piece};
 use crate::put_fault::PutFault;
 use crate::run_fault::RunFault;
 use crate::speaker::Speaker;
-use crate::waiting_text::{Style, write_waiting};
+use crate::waiting_text::{Style, write_waiting_text};
 use dm_dict::Dictionary;
 use std::alloc::Global;
 use std::io::{BufRead, Error, ErrorKind, Write};
@@ -32,7 +32,7 @@ pub(crate) enum Came {
 }
 
 /// Writes what waits, unless `put` is a write that failed, and returns `put`; the fault of the writer where that fails.
-fn write_unless_failed<W: Write>(
+fn write_waiting_unless_write_failed<W: Write>(
     put: Result<bool, PutFault>,
     output: &mut Output,
     writer: &mut W,
@@ -42,12 +42,12 @@ fn write_unless_failed<W: Write>(
 {
     match put {
         Ok(going) => {
-            write_waiting(&mut output.waits, writer)?;
+            write_waiting_text(&mut output.waits, writer)?;
             Ok(going)
         }
         Err(PutFault::Write(error)) => Err(PutFault::Write(error)),
         Err(fault) => {
-            write_waiting(&mut output.waits, writer)?;
+            write_waiting_text(&mut output.waits, writer)?;
             Err(fault)
         }
     }
@@ -55,7 +55,7 @@ fn write_unless_failed<W: Write>(
 
 /// Says the lines that end in these octets, the first of which began with what is held, holds what is left of them, and
 /// writes what was said. True where more is to be said.
-fn say_octets<S: Speaker, W: Write>(
+fn say_and_write_piece<S: Speaker, W: Write>(
     alloc: Global,
     dictionary: &Dictionary,
     style: Style,
@@ -80,14 +80,14 @@ fn say_octets<S: Speaker, W: Write>(
         seam.old.lines speaker.old seam.old.held.items octets.now fault (W.contents writer.old) []
         (W.contents writer.new) []) }
 {
-    let put = gather_piece(
+    let put = say_and_gather_piece(
         alloc, dictionary, style, speaker, seam, octets, output, writer,
     );
-    write_unless_failed(put, output, writer)
+    write_waiting_unless_write_failed(put, output, writer)
 }
 
 /// What a read that failed comes to: an interrupted one is made again.
-fn retry_if_interrupted(error: Error) -> Came
+fn came_of_failed_read(error: Error) -> Came
     ensures goes { goes_further result ≡ true }
     ensures more { result ≢ Came.End }
 {
@@ -97,8 +97,8 @@ fn retry_if_interrupted(error: Error) -> Came
     Came::Failed(error)
 }
 
-/// Says the lines that end in what the reader has at hand, writes that, and takes it.
-fn say_buffered<S: Speaker, R: BufRead, W: Write>(
+/// Says the lines that end in what the reader has at hand, writes that, and consumes it.
+fn say_and_consume_lines_at_hand<S: Speaker, R: BufRead, W: Write>(
     alloc: Global,
     dictionary: &Dictionary,
     style: Style,
@@ -128,21 +128,21 @@ fn say_buffered<S: Speaker, R: BufRead, W: Write>(
 {
     let octets = match reader.fill_buf() {
         Ok(octets) => octets,
-        Err(error) => return Ok(retry_if_interrupted(error)),
+        Err(error) => return Ok(came_of_failed_read(error)),
     };
     let size = octets.len();
     if size == 0 {
         return Ok(Came::End);
     }
-    let going = say_octets(
+    let going = say_and_write_piece(
         alloc, dictionary, style, speaker, seam, octets, output, writer,
     )?;
     reader.consume(size);
-    Ok(more_or_enough(going))
+    Ok(came_of_good_read(going))
 }
 
 /// What octets come to that were read: whether more is to be said.
-fn more_or_enough(going: bool) -> Came
+fn came_of_good_read(going: bool) -> Came
     ensures goes { goes_further result ≡ going }
     ensures more { result ≢ Came.End }
 {
@@ -150,7 +150,7 @@ fn more_or_enough(going: bool) -> Came
 }
 
 /// Says the line that is held at the end of the input, where one is, and writes that. True where more could be said.
-fn say_last_line<S: Speaker, W: Write>(
+fn say_and_write_last_line<S: Speaker, W: Write>(
     alloc: Global,
     dictionary: &Dictionary,
     style: Style,
@@ -171,13 +171,13 @@ fn say_last_line<S: Speaker, W: Write>(
         seam.old.lines speaker.old (lines (ended seam.old.held.items)) [] fault (W.contents writer.old) []
         (W.contents writer.new) []) }
 {
-    let put = gather_last_line(alloc, dictionary, style, speaker, seam, output, writer);
-    write_unless_failed(put, output, writer)
+    let put = say_and_gather_last_line(alloc, dictionary, style, speaker, seam, output, writer);
+    write_waiting_unless_write_failed(put, output, writer)
 }
 
 /// Says and writes the lines of a reader, up to one behind which nothing more is to be said. True where more could be
 /// said.
-fn say_all_buffered<S: Speaker, R: BufRead, W: Write>(
+fn say_reader_lines<S: Speaker, R: BufRead, W: Write>(
     alloc: Global,
     dictionary: &Dictionary,
     style: Style,
@@ -201,12 +201,14 @@ fn say_all_buffered<S: Speaker, R: BufRead, W: Write>(
         (W.contents writer.new)) }
 {
     for _ in 0..u64::MAX {
-        match say_buffered(
+        match say_and_consume_lines_at_hand(
             alloc, dictionary, style, speaker, seam, output, reader, writer,
         )? {
             Came::More => {}
             Came::End => {
-                let going = say_last_line(alloc, dictionary, style, speaker, seam, output, writer)?;
+                let going = say_and_write_last_line(
+                    alloc, dictionary, style, speaker, seam, output, writer,
+                )?;
                 return Ok(going);
             }
             Came::Enough => return Ok(false),
@@ -218,7 +220,7 @@ fn say_all_buffered<S: Speaker, R: BufRead, W: Write>(
 
 /// Says the lines of a reader behind so many others, up to one behind which nothing more is to be said. It tells how
 /// many were said, and whether more could be said.
-pub(crate) fn say_buffered_lines<S: Speaker, R: BufRead, W: Write>(
+pub(crate) fn say_and_count_reader_lines<S: Speaker, R: BufRead, W: Write>(
     alloc: Global,
     dictionary: &Dictionary,
     style: Style,
@@ -245,7 +247,7 @@ pub(crate) fn say_buffered_lines<S: Speaker, R: BufRead, W: Write>(
         text: String::new(alloc),
         waits: Vec::new(alloc),
     };
-    let done = say_all_buffered(
+    let done = say_reader_lines(
         alloc,
         dictionary,
         style,

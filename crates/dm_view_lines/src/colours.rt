@@ -11,13 +11,13 @@ pub fn coloured_text(alloc: Global, task: Task, text: &[u8]) -> Result<Vec<u8>, 
     ensures { IfOk result (λ coloured. coloured.items ≡ styled true task text.now) }
 {
     match task {
-        Task::Show | Task::Check => lines_coloured(alloc, task, text),
+        Task::Show | Task::Check => coloured_lines(alloc, task, text),
         Task::ShowJson | Task::CheckJson => Vec::from_slice(alloc, text),
     }
 }
 
 /// The text with a colour at each line.
-fn lines_coloured(alloc: Global, task: Task, text: &[u8]) -> Result<Vec<u8>, AllocError>
+fn coloured_lines(alloc: Global, task: Task, text: &[u8]) -> Result<Vec<u8>, AllocError>
     ensures { IfOk result (λ coloured. coloured.items ≡ in_colours task text.now) }
 {
     let mut coloured = Vec::new(alloc);

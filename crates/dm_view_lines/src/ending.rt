@@ -11,31 +11,14 @@ ghost use Rattle.dm_view_lines.specs.declared.tally.Tally.{Tally};
 
 use crate::put_fault::PutFault;
 use crate::run_fault::RunFault;
-use crate::stop::{Stop, put_stop};
-use crate::tally::{Tally, put_last};
-use crate::waiting_text::{Style, push_styled, write_waiting};
+use crate::stop::{Stop, put_and_count_stop};
+use crate::tally::{Tally, put_tally_if_checked};
+use crate::waiting_text::{Style, write_text_in_style};
 use std::alloc::Global;
 use std::io::Write;
 
-/// Writes a text in its style. Where memory is wanted nothing of it is written, where the writer fails a front.
-pub fn write_end<W: Write>(
-    alloc: Global,
-    style: Style,
-    text: &[u8],
-    writer: &mut W,
-) -> Result<(), PutFault>
-    ensures written { OnOk result (Appends (W.contents writer.old) (W.contents writer.new)
-        (styled style.coloured style.task text.now)) }
-    ensures stopped { IfErr result (λ fault. FailsAtEnd (run_fault fault) (W.contents writer.old)
-        (W.contents writer.new) (styled style.coloured style.task text.now)) }
-{
-    let mut waits = Vec::new(alloc);
-    push_styled(alloc, style, text, &mut waits)?;
-    write_waiting(&mut waits, writer)
-}
-
 /// Writes what ends the text of lines: under a check how many were good and bad. True where none was bad.
-pub(crate) fn write_lines_end<W: Write>(
+pub(crate) fn write_ending_of_lines<W: Write>(
     alloc: Global,
     style: Style,
     tally: Tally,
@@ -47,14 +30,14 @@ pub(crate) fn write_lines_end<W: Write>(
     ensures stopped { IfErr result (λ fault. FailsAtEnd fault (W.contents writer.old) (W.contents writer.new)
         (styled style.coloured style.task (counts_line style.task tally))) }
 {
-    match write_counts(alloc, style, tally, writer) {
+    match write_tally_if_checked(alloc, style, tally, writer) {
         Ok(()) => Ok(tally.bad == 0),
         Err(fault) => Err(RunFault::from(fault)),
     }
 }
 
 /// Writes how many were good and bad, under a check.
-fn write_counts<W: Write>(
+fn write_tally_if_checked<W: Write>(
     alloc: Global,
     style: Style,
     tally: Tally,
@@ -66,13 +49,13 @@ fn write_counts<W: Write>(
         (W.contents writer.new) (styled style.coloured style.task (counts_line style.task tally))) }
 {
     let mut text = String::new(alloc);
-    put_last(alloc, &mut text, style.task, tally)?;
-    write_end(alloc, style, text.as_bytes(), writer)
+    put_tally_if_checked(alloc, &mut text, style.task, tally)?;
+    write_text_in_style(alloc, style, text.as_bytes(), writer)
 }
 
 /// Writes why a stream is read no further, where something is left of it or lost, and under a check how many messages
 /// were good and bad. It tells how many were.
-fn write_stop<W: Write>(
+fn write_stop_and_tally<W: Write>(
     alloc: Global,
     style: Style,
     tally: Tally,
@@ -89,14 +72,14 @@ fn write_stop<W: Write>(
         ++ counts_line style.task (tallied tally (tally_of (stop_verdict stop)))))) }
 {
     let mut text = String::new(alloc);
-    let counted = put_stop(alloc, &mut text, style.task, tally, stop)?;
-    put_last(alloc, &mut text, style.task, counted)?;
-    write_end(alloc, style, text.as_bytes(), writer)?;
+    let counted = put_and_count_stop(alloc, &mut text, style.task, tally, stop)?;
+    put_tally_if_checked(alloc, &mut text, style.task, counted)?;
+    write_text_in_style(alloc, style, text.as_bytes(), writer)?;
     Ok(counted)
 }
 
 /// Writes what ends the text of a stream. True where all of it was good.
-pub(crate) fn write_stream_end<W: Write>(
+pub(crate) fn write_ending_of_stream<W: Write>(
     alloc: Global,
     style: Style,
     tally: Tally,
@@ -112,7 +95,7 @@ pub(crate) fn write_stream_end<W: Write>(
         (styled style.coloured style.task (stop_text style.task (tally.good + tally.bad + 1) stop
         ++ counts_line style.task (tallied tally (tally_of (stop_verdict stop)))))) }
 {
-    match write_stop(alloc, style, tally, stop, writer) {
+    match write_stop_and_tally(alloc, style, tally, stop, writer) {
         Ok(counted) => Ok(counted.bad == 0),
         Err(fault) => Err(RunFault::from(fault)),
     }

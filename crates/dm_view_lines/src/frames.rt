@@ -7,10 +7,10 @@ ghost use Rattle.dm_view_lines.specs.Counts.{tallied, tally_of};
 ghost use Rattle.dm_view_lines.specs.Frames.{SaysFrames};
 ghost use Rattle.dm_view_lines.specs.Said.{SaysOctets};
 
-use crate::message_reports::{Task, put_octets};
+use crate::message_reports::{Task, put_octets_report};
 use crate::tally::Tally;
 use dm_dict::{Dictionary, NoMemory};
-use dm_framer::laws::one_front;
+use dm_framer::laws::at_most_one_frame_is_in_front;
 use dm_framer::{FrameFault, Framer};
 use std::alloc::Global;
 
@@ -25,7 +25,7 @@ pub(crate) struct Reading {
 
 /// Appends what is said of the octets of a message, which is numbered behind those that were counted, and returns the
 /// counts with it.
-fn put_frame(
+fn put_and_count_frame_report(
     alloc: Global,
     text: &mut String,
     dictionary: &Dictionary,
@@ -38,16 +38,16 @@ fn put_frame(
         × (string_bytes text.new ≡ string_bytes text.old ++ said)
         × (counted ≡ tallied tally (tally_of (Some good)))) }
 {
-    let Some(number) = tally.next() else {
+    let Some(number) = tally.number_of_next() else {
         return Err(NoMemory);
     };
-    let good = put_octets(alloc, text, dictionary, task, &number, message)?;
-    Ok(tally.with(Some(good)))
+    let good = put_octets_report(alloc, text, dictionary, task, &number, message)?;
+    Ok(tally.with_verdict(Some(good)))
 }
 
 /// Appends what is said of the whole messages that the framer holds, takes them out of it, and returns how far the
 /// stream was read then.
-pub(crate) fn put_frames(
+pub(crate) fn take_frames_and_put_reports(
     alloc: Global,
     text: &mut String,
     dictionary: &Dictionary,
@@ -64,13 +64,13 @@ pub(crate) fn put_frames(
     ensures held { IfOk result (λ read. read.held ≡ length framer.new.octets) }
     ensures kept { framer.new ≡ record framer.old { octets = framer.new.octets } }
 {
-    one_front();
+    at_most_one_frame_is_in_front();
     let mut tally = reading.tally;
     let mut held = reading.held;
     loop {
         match framer.front() {
             Ok(Some(message)) => {
-                tally = put_frame(alloc, text, dictionary, task, tally, message)?;
+                tally = put_and_count_frame_report(alloc, text, dictionary, task, tally, message)?;
                 held -= message.len();
                 framer.skip();
             }

@@ -15,11 +15,11 @@ pub trait Front {
     ghost before: { Self → SaidFront };
 
     /// Appends what stands before the words. Where memory is wanted, what is appended is of no use.
-    fn put_words(&self, text: &mut String) -> Result<(), AllocError>
+    fn put_front_words(&self, text: &mut String) -> Result<(), AllocError>
         ensures { OnOk result (string_bytes text.new ≡ string_bytes text.old ++ (before self.now).words) };
 
     /// Appends the first members of an object that is open. Where memory is wanted, what is appended is of no use.
-    fn put_members(&self, alloc: Global, json: &mut JsonText) -> Result<(), AllocError>
+    fn put_front_members(&self, alloc: Global, json: &mut JsonText) -> Result<(), AllocError>
         ensures { (more : Members) → OnOk result (json.new ++ members_tokens more
             ≡ json.old ++ members_tokens ((before self.now).members more)) };
 }
@@ -27,13 +27,13 @@ pub trait Front {
 impl Front for u64 {
     ghost before = { by_number };
 
-    fn put_words(&self, text: &mut String) -> Result<(), AllocError> {
+    fn put_front_words(&self, text: &mut String) -> Result<(), AllocError> {
         put_decimal(text, *self)?;
         text.push_str(": ")
     }
 
-    fn put_members(&self, _alloc: Global, json: &mut JsonText) -> Result<(), AllocError> {
-        json.key("number")?;
-        json.number(*self)
+    fn put_front_members(&self, _alloc: Global, json: &mut JsonText) -> Result<(), AllocError> {
+        json.put_key("number")?;
+        json.put_number(*self)
     }
 }

@@ -7,7 +7,7 @@ ghost use Rattle.dm_view_lines.specs.declared.gathered_lines.TheConstants.{LINE_
 
 use crate::put_fault::PutFault;
 use crate::speaker::Speaker;
-use crate::waiting_text::{Style, push_text};
+use crate::waiting_text::{Style, gather_or_write_text};
 use dm_dict::Dictionary;
 use dm_text::Lines;
 use std::alloc::Global;
@@ -24,7 +24,7 @@ pub(crate) struct Output {
 }
 
 /// The number of the next line, which is this one. It fails where the line has too many octets.
-fn next_line_number(before: u64, line: &[u8]) -> Result<u64, PutFault>
+fn line_number_unless_too_long(before: u64, line: &[u8]) -> Result<u64, PutFault>
     ensures next { IfOk result (λ number. number ≡ before + 1) }
     ensures within { OnOk result (length line.now ≤ line_limit) }
     ensures long { IfErr result (λ fault. CountsLong fault before (line.now ∷ []) []) }
@@ -39,7 +39,7 @@ fn next_line_number(before: u64, line: &[u8]) -> Result<u64, PutFault>
 }
 
 /// Says a line behind so many others, and gathers that. It tells how many were said, and whether more is to be said.
-fn gather_line<S: Speaker, W: Write>(
+fn say_and_gather_line<S: Speaker, W: Write>(
     alloc: Global,
     dictionary: &Dictionary,
     style: Style,
@@ -60,7 +60,7 @@ fn gather_line<S: Speaker, W: Write>(
         before speaker.old (line.now ∷ []) [] fault (W.contents writer.old) output.old.waits.items
         (W.contents writer.new) output.new.waits.items) }
 {
-    let number = next_line_number(before, line)?;
+    let number = line_number_unless_too_long(before, line)?;
     output.text.clear();
     let going = speaker.say_line(
         alloc,
@@ -70,7 +70,7 @@ fn gather_line<S: Speaker, W: Write>(
         line,
         &mut output.text,
     )?;
-    push_text(
+    gather_or_write_text(
         alloc,
         style,
         output.text.as_bytes(),
@@ -82,7 +82,7 @@ fn gather_line<S: Speaker, W: Write>(
 
 /// Says the lines of octets, behind so many others, up to one behind which nothing more is to be said. It tells how
 /// many were said, and whether more is to be said.
-pub(crate) fn gather_lines<S: Speaker, W: Write>(
+pub(crate) fn say_and_gather_lines<S: Speaker, W: Write>(
     alloc: Global,
     dictionary: &Dictionary,
     style: Style,
@@ -105,7 +105,7 @@ pub(crate) fn gather_lines<S: Speaker, W: Write>(
 {
     let mut so_far = before;
     for line in Lines::new(octets) {
-        let (number, going) = gather_line(
+        let (number, going) = say_and_gather_line(
             alloc, dictionary, style, speaker, so_far, line, output, writer,
         )?;
         so_far = number;

@@ -6,7 +6,7 @@ use byteorder::{BigEndian, ByteOrder};
 use dm_wire::Header;
 
 /// The fields of the header at the front, whatever stands behind it.
-pub(crate) fn header_of(octets: &[u8]) -> Header
+pub(crate) fn header_at_front(octets: &[u8]) -> Header
     requires { 20 ≤ length octets.now }
     ensures { result ≡ header_in octets.now }
 {

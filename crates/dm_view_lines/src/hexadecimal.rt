@@ -6,7 +6,7 @@ ghost use Rattle.dm_view_lines.specs.Digits.{without_mark, begins_comment, is_be
 ghost use Rattle.memchr.specs.Find.{IsFirstByte};
 ghost use Rattle.dm_view_lines.specs.Digits.{digits_of_words, octets_of_line};
 
-use crate::one_word::is_one_long_word;
+use crate::one_word::is_surely_one_long_word;
 use dm_text::read_hex_word;
 use memchr::{memchr2, memchr3};
 use std::alloc::{AllocError, Global};
@@ -19,21 +19,21 @@ const NEAR: usize = 5;
 ///
 /// Spaces, tabs and `:` may stand between digits, `0x` before those of a word, a byte order mark at the front, and a
 /// comment behind `;` or `#`. `digits` is room that is used again from line to line; what it holds doesn't matter.
-pub fn read_line(
+pub fn read_hex_line(
     alloc: Global,
     line: &[u8],
     digits: &mut Vec<u8>,
 ) -> Result<Option<Vec<u8>>, AllocError>
     ensures { IfOk result (λ octets. option_map (λ v. v.items) octets ≡ octets_of_line line.now) }
 {
-    if is_one_long_word(line) {
+    if is_surely_one_long_word(line) {
         return read_hex_word(alloc, line);
     }
-    read_hex_words(alloc, line, digits)
+    read_hex_line_by_words(alloc, line, digits)
 }
 
 /// The octets that the words of a line stand for. None where a digit is bad or their number is odd.
-fn read_hex_words(
+fn read_hex_line_by_words(
     alloc: Global,
     line: &[u8],
     digits: &mut Vec<u8>,
@@ -41,11 +41,11 @@ fn read_hex_words(
     ensures { IfOk result (λ octets. option_map (λ v. v.items) octets ≡ octets_of_line line.now) }
 {
     let words = before_comment(without_byte_order_mark(line));
-    let (word, rest) = first_word(words);
+    let (word, rest) = split_first_word_by_search(words);
     if rest.is_empty() {
-        return read_hex_word(alloc, without_prefix(word));
+        return read_hex_word(alloc, without_0x_prefix(word));
     }
-    collect_digits(words, digits)?;
+    set_digits_of_words(words, digits)?;
     read_hex_word(alloc, digits.as_slice())
 }
 
@@ -77,7 +77,7 @@ fn before_comment(line: &[u8]) -> &[u8]
 
 /// A word and the rest, which together have the digits of the words: the first word, and what stands behind it
 /// and one space, tab or `:`.
-fn first_word(words: &[u8]) -> (&[u8], &[u8])
+fn split_first_word_by_search(words: &[u8]) -> (&[u8], &[u8])
     ensures digits { digits_of_words words.now ≡ without_prefix result.0.now ++ digits_of_words result.1.now }
     ensures less { 0 < length words.now → length result.1.now < length words.now }
 {
@@ -87,20 +87,21 @@ fn first_word(words: &[u8]) -> (&[u8], &[u8])
     }
 }
 
-/// A word and the rest, which together have the digits of the words, as `first_word` tells them. Where there are
-/// several words most have two or four digits, so a few octets are looked at one by one before the others are searched.
-fn next_word(words: &[u8]) -> (&[u8], &[u8])
+/// A word and the rest, which together have the digits of the words, as `split_first_word_by_search` tells them. Where
+/// there are several words most have two or four digits, so a few octets are looked at one by one before the others are
+/// searched.
+fn split_first_word(words: &[u8]) -> (&[u8], &[u8])
     ensures digits { digits_of_words words.now ≡ without_prefix result.0.now ++ digits_of_words result.1.now }
     ensures less { 0 < length words.now → length result.1.now < length words.now }
 {
-    match near_gap(words) {
+    match find_near_separator(words) {
         Some(at) => (&words[..at], &words[at + 1..]),
-        None => first_word(words),
+        None => split_first_word_by_search(words),
     }
 }
 
 /// Where the first space, tab or `:` stands, where that is among the first few octets.
-fn near_gap(words: &[u8]) -> Option<usize>
+fn find_near_separator(words: &[u8]) -> Option<usize>
     ensures { IfSome result (λ at. IsFirstByte is_between words.now (Some at)) }
 {
     'few: for at in 0..words.len().min(NEAR) {
@@ -112,7 +113,7 @@ fn near_gap(words: &[u8]) -> Option<usize>
 }
 
 /// A word without `0x` at its front.
-fn without_prefix(word: &[u8]) -> &[u8]
+fn without_0x_prefix(word: &[u8]) -> &[u8]
     ensures { result.now ≡ without_prefix word.now }
 {
     match word {
@@ -127,15 +128,15 @@ fn without_prefix(word: &[u8]) -> &[u8]
     }
 }
 
-/// Puts the digits of words into `digits`.
-fn collect_digits(words: &[u8], digits: &mut Vec<u8>) -> Result<(), AllocError>
+/// Sets `digits` to the digits of words; what it held is lost.
+fn set_digits_of_words(words: &[u8], digits: &mut Vec<u8>) -> Result<(), AllocError>
     ensures { OnOk result (digits.new.items ≡ digits_of_words words.now) }
 {
     digits.clear();
     let mut left = words;
     'words: while !left.is_empty() {
-        let (word, rest) = next_word(left);
-        digits.extend_from_slice(without_prefix(word))?;
+        let (word, rest) = split_first_word(left);
+        digits.extend_from_slice(without_0x_prefix(word))?;
         left = rest;
     }
     Ok(())

@@ -72,12 +72,12 @@ impl<R: Read + Drop> Inputs<R> {
     }
 
     /// How many of the readers were read to their ends.
-    pub fn at(&self) -> usize {
+    pub fn ended_reader_count(&self) -> usize {
         self.at
     }
 
     /// Reads the first reader. `None` where it is at its end.
-    fn read_first(&mut self, buf: &mut [u8]) -> io::Result<Option<usize>>
+    fn read_first_reader(&mut self, buf: &mut [u8]) -> io::Result<Option<usize>>
         ensures bound { IfOk result (λ read. IfSome read (λ n. n ≤ length buf.new)) }
         ensures bytes { ReadsFirstReader (inputs_remaining R.remaining self.old)
             (inputs_remaining R.remaining self.new) result
@@ -103,7 +103,7 @@ impl<R: Read + Drop> Read for Inputs<R> {
 
     fn read(&mut self, buf: &mut [u8]) -> io::Result<usize> {
         for _ in 0..u64::MAX {
-            if let Some(count) = self.read_first(buf)? {
+            if let Some(count) = self.read_first_reader(buf)? {
                 return Ok(count);
             }
         }

@@ -8,16 +8,16 @@ ghost use Rattle.dm_view_lines.specs.Json.{fronted_json, error_member, bad_membe
 ghost use Rattle.dm_view_lines.specs.Reasons.{refusal_sentence};
 
 use crate::front::Front;
-use crate::json_parts::{put_bad_if_checked, put_error_and_close};
+use crate::json_parts::{put_bad_verdict_if_checked, put_error_and_end_object};
 use crate::refusal_words::refusal_sentence;
-use crate::refused::message_to_bad_avp;
+use crate::refused::message_before_bad_avp;
 use dm_dict::Dictionary;
-use dm_view::{JsonText, put_json_header, put_json_message};
+use dm_view::{JsonText, put_header_object, put_message_members};
 use dm_wire::WireFault;
 use std::alloc::{AllocError, Global};
 
 /// Appends the message up to the bad AVP, as members of an object that is open; nothing where the fault is another.
-fn put_json_front_shown(
+fn put_json_message_before_refusal(
     json: &mut JsonText,
     dictionary: &Dictionary,
     octets: &[u8],
@@ -29,7 +29,7 @@ fn put_json_front_shown(
 {
     match fault {
         WireFault::AvpLength(offset) => {
-            put_json_message(json, dictionary, &message_to_bad_avp(octets, offset))
+            put_message_members(json, dictionary, &message_before_bad_avp(octets, offset))
         }
         WireFault::TooShort
         | WireFault::Version
@@ -41,7 +41,7 @@ fn put_json_front_shown(
 
 /// Appends the header of a message with a bad AVP, as a member of an object that is open; nothing where the fault is
 /// another.
-fn put_json_front_checked(
+fn put_json_header_before_refusal(
     json: &mut JsonText,
     dictionary: &Dictionary,
     octets: &[u8],
@@ -53,8 +53,12 @@ fn put_json_front_checked(
 {
     match fault {
         WireFault::AvpLength(offset) => {
-            json.key("header")?;
-            put_json_header(json, dictionary, &message_to_bad_avp(octets, offset).header)
+            json.put_key("header")?;
+            put_header_object(
+                json,
+                dictionary,
+                &message_before_bad_avp(octets, offset).header,
+            )
         }
         WireFault::TooShort
         | WireFault::Version
@@ -65,7 +69,7 @@ fn put_json_front_checked(
 }
 
 /// Appends why octets are no message, and closes the object.
-fn put_reason_and_close(
+fn put_refusal_and_end_object(
     alloc: Global,
     json: &mut JsonText,
     fault: WireFault,
@@ -73,7 +77,7 @@ fn put_reason_and_close(
     ensures { OnOk result (json.new ≡ json.old ++ members_tokens (error_member (refusal_sentence fault))) }
 {
     let words = refusal_sentence(alloc, fault)?;
-    put_error_and_close(json, words.as_str())
+    put_error_and_end_object(json, words.as_str())
 }
 
 /// Appends the object that shows octets that are no message, behind this front.
@@ -90,9 +94,9 @@ fn put_shown_refusal_object<F: Front>(
         (shown_before dictionary.now octets.now fault (error_member (refusal_sentence fault)))))) }
 {
     json.begin_object()?;
-    front.put_members(alloc, json)?;
-    put_json_front_shown(json, dictionary, octets, fault)?;
-    put_reason_and_close(alloc, json, fault)?;
+    front.put_front_members(alloc, json)?;
+    put_json_message_before_refusal(json, dictionary, octets, fault)?;
+    put_refusal_and_end_object(alloc, json, fault)?;
     Ok(())
 }
 
@@ -111,7 +115,7 @@ pub(crate) fn put_json_shown_refusal<F: Front>(
 {
     let mut json = JsonText::new(alloc);
     put_shown_refusal_object(alloc, &mut json, dictionary, front, octets, fault)?;
-    json.put_line(text)
+    json.put_line_into(text)
 }
 
 /// Appends the object that a check gives of octets that are no message, behind this front.
@@ -128,10 +132,10 @@ fn put_checked_refusal_object<F: Front>(
         (bad_members (checked_before dictionary.now octets.now fault (error_member (refusal_sentence fault))))))) }
 {
     json.begin_object()?;
-    front.put_members(alloc, json)?;
-    put_bad_if_checked(json, true)?;
-    put_json_front_checked(json, dictionary, octets, fault)?;
-    put_reason_and_close(alloc, json, fault)?;
+    front.put_front_members(alloc, json)?;
+    put_bad_verdict_if_checked(json, true)?;
+    put_json_header_before_refusal(json, dictionary, octets, fault)?;
+    put_refusal_and_end_object(alloc, json, fault)?;
     Ok(())
 }
 
@@ -150,5 +154,5 @@ pub(crate) fn put_json_checked_refusal<F: Front>(
 {
     let mut json = JsonText::new(alloc);
     put_checked_refusal_object(alloc, &mut json, dictionary, front, octets, fault)?;
-    json.put_line(text)
+    json.put_line_into(text)
 }

@@ -13,12 +13,12 @@ ghost use Rattle.dm_view_lines.specs.Json.{fronted_json};
 
 use crate::front::Front;
 use dm_dict::{Dictionary, NoMemory};
-use dm_view::{JsonText, put_json_check, put_json_message};
+use dm_view::{JsonText, put_json_verdict_header_and_faults, put_message_members};
 use dm_wire::MessageRef;
 use std::alloc::{AllocError, Global};
 
 /// Appends the object that shows a message behind this front.
-fn put_shown_object<F: Front>(
+fn put_shown_message_object<F: Front>(
     alloc: Global,
     json: &mut JsonText,
     dictionary: &Dictionary,
@@ -30,14 +30,14 @@ fn put_shown_object<F: Front>(
         (message_members dictionary.now (record { header = message.now.header; avps = l }) no_members)))) }
 {
     json.begin_object()?;
-    front.put_members(alloc, json)?;
-    put_json_message(json, dictionary, message)?;
+    front.put_front_members(alloc, json)?;
+    put_message_members(json, dictionary, message)?;
     json.end_object()?;
     Ok(())
 }
 
 /// Appends the line that shows a message behind this front, and returns true: a message that is shown counts as good.
-pub(crate) fn put_json_shown<F: Front>(
+pub(crate) fn put_json_shown_message<F: Front>(
     alloc: Global,
     text: &mut String,
     dictionary: &Dictionary,
@@ -50,13 +50,13 @@ pub(crate) fn put_json_shown<F: Front>(
     ensures good { IfOk result (λ good. good ≡ true) }
 {
     let mut json = JsonText::new(alloc);
-    put_shown_object(alloc, &mut json, dictionary, front, message)?;
-    json.put_line(text)?;
+    put_shown_message_object(alloc, &mut json, dictionary, front, message)?;
+    json.put_line_into(text)?;
     Ok(true)
 }
 
 /// Appends the object of all that is wrong with a message behind this front, and tells whether it is good.
-fn put_checked_object<F: Front>(
+fn put_checked_message_object<F: Front>(
     alloc: Global,
     json: &mut JsonText,
     dictionary: &Dictionary,
@@ -70,14 +70,14 @@ fn put_checked_object<F: Front>(
         good ≡ are_none (located_faults dictionary.now (record { header = message.now.header; avps = l }))) }
 {
     json.begin_object()?;
-    front.put_members(alloc, json)?;
-    let good = put_json_check(alloc, json, dictionary, message)?;
+    front.put_front_members(alloc, json)?;
+    let good = put_json_verdict_header_and_faults(alloc, json, dictionary, message)?;
     json.end_object()?;
     Ok(good)
 }
 
 /// Appends the line of all that is wrong with a message behind this front, and tells whether it is good.
-pub(crate) fn put_json_checked<F: Front>(
+pub(crate) fn put_json_checked_message<F: Front>(
     alloc: Global,
     text: &mut String,
     dictionary: &Dictionary,
@@ -91,7 +91,7 @@ pub(crate) fn put_json_checked<F: Front>(
         good ≡ are_none (located_faults dictionary.now (record { header = message.now.header; avps = l }))) }
 {
     let mut json = JsonText::new(alloc);
-    let good = put_checked_object(alloc, &mut json, dictionary, front, message)?;
-    json.put_line(text)?;
+    let good = put_checked_message_object(alloc, &mut json, dictionary, front, message)?;
+    json.put_line_into(text)?;
     Ok(good)
 }

@@ -5,29 +5,29 @@ ghost use Rattle.dm_view_lines.specs.Joined.{JoinedSaid};
 ghost use Rattle.dm_view_lines.specs.OneText.{OneSaid, SomeSaid};
 
 /// Under one dictionary one text at most is said of an input, and it is either good or not. The law stands for users.
-pub fn one_text()
+pub fn at_most_one_text_is_said()
     ensures { OneSaid }
 {
-    dm_wire::laws::one_message();
-    dm_wire::laws::one_refusal();
-    dm_wire::laws::no_message_refused();
+    dm_wire::laws::octets_begin_with_one_message_at_most();
+    dm_wire::laws::octets_have_at_most_one_fault();
+    dm_wire::laws::octets_of_messages_have_no_fault();
 }
 
 /// Under each dictionary something is said of each input, and it is good or not. The law stands for users.
-pub fn some_text()
+pub fn each_input_has_something_said()
     ensures { SomeSaid }
 {
-    dm_wire::laws::message_or_fault();
+    dm_wire::laws::octets_spell_message_or_have_fault();
 }
 
 /// What is said of two inputs, the first of which ends with a line's end, is what is said of each, numbers going on.
 /// The law stands for users.
-pub fn joined_texts()
+pub fn joined_inputs_are_told_as_each()
     ensures { JoinedSaid }
 {}
 
 /// Texts that are gathered one behind the other are gathered as one, whatever was written meanwhile.
-pub fn gathered_texts()
+pub fn texts_gathered_in_turn_gather_as_one()
     ensures nothing { GathersNothing }
     ensures turns { GathersInTurn }
     ensures writes { GathersAndWrites }

@@ -5,13 +5,13 @@ ghost use Rattle.std.specs.String.{string_bytes};
 ghost use Rattle.dm_view_lines.specs.Digits.{octets_of_line};
 ghost use Rattle.dm_view_lines.specs.Lines.{SaysLine, SaysLines, Says};
 
-use crate::bad_line::put_bad_line;
-use crate::hexadecimal::read_line;
-use crate::message_reports::{Task, put_octets};
-use crate::tally::{Tally, put_last};
+use crate::bad_line::put_numbered_error_report;
+use crate::hexadecimal::read_hex_line;
+use crate::message_reports::{Task, put_octets_report};
+use crate::tally::{Tally, put_tally_if_checked};
 use dm_dict::{Dictionary, NoMemory};
 use dm_text::Lines;
-use dm_text::laws::lines_are_joined;
+use dm_text::laws::lines_of_parts_are_lines_of_whole;
 use std::alloc::Global;
 
 /// Appends what is said of the line of this number, and tells whether it is good; `None` where it says nothing.
@@ -28,10 +28,12 @@ pub(crate) fn put_line_report(
     ensures { IfOk result (λ verdict. (more : List ℕ) × (string_bytes text.new ≡ string_bytes text.old ++ more)
         × SaysLine task dictionary.now number (octets_of_line line.now) more verdict) }
 {
-    match read_line(alloc, line, digits)? {
-        Some(octets) => put_octets_report(alloc, text, dictionary, task, number, octets.as_slice()),
+    match read_hex_line(alloc, line, digits)? {
+        Some(octets) => {
+            put_numbered_octets_report(alloc, text, dictionary, task, number, octets.as_slice())
+        }
         None => {
-            put_bad_line(alloc, text, task, number, "no hexadecimal")?;
+            put_numbered_error_report(alloc, text, task, number, "no hexadecimal")?;
             Ok(Some(false))
         }
     }
@@ -39,7 +41,7 @@ pub(crate) fn put_line_report(
 
 /// Appends what is said of the octets of the line of this number, and tells whether they are good; `None` where there
 /// are none.
-fn put_octets_report(
+fn put_numbered_octets_report(
     alloc: Global,
     text: &mut String,
     dictionary: &Dictionary,
@@ -53,12 +55,12 @@ fn put_octets_report(
     if octets.is_empty() {
         return Ok(None);
     }
-    let good = put_octets(alloc, text, dictionary, task, &number, octets)?;
+    let good = put_octets_report(alloc, text, dictionary, task, &number, octets)?;
     Ok(Some(good))
 }
 
 /// Appends what is said of the lines of an input, and tells how many are good and bad.
-fn put_lines_report(
+fn put_report_of_all_lines(
     alloc: Global,
     text: &mut String,
     dictionary: &Dictionary,
@@ -68,20 +70,20 @@ fn put_lines_report(
     ensures { IfOk result (λ tally. (more : List ℕ) × (string_bytes text.new ≡ string_bytes text.old ++ more)
         × SaysLines task dictionary.now 1 (lines input.now) more tally) }
 {
-    lines_are_joined();
+    lines_of_parts_are_lines_of_whole();
     let mut digits = Vec::new(alloc);
     let mut tally = Tally { good: 0, bad: 0 };
     let mut number: u64 = 0;
     for line in Lines::new(input) {
         number += 1;
         let verdict = put_line_report(alloc, text, dictionary, task, number, line, &mut digits)?;
-        tally = tally.with(verdict);
+        tally = tally.with_verdict(verdict);
     }
     Ok(tally)
 }
 
 /// What is said of the lines of an input, and whether none of them is bad.
-pub fn lines_text(
+pub fn lines_report(
     alloc: Global,
     dictionary: &Dictionary,
     task: Task,
@@ -90,7 +92,7 @@ pub fn lines_text(
     ensures { IfOk result (λ said. Says task dictionary.now input.now said.0.items said.1) }
 {
     let mut text = String::new(alloc);
-    let tally = put_lines_report(alloc, &mut text, dictionary, task, input)?;
-    put_last(alloc, &mut text, task, tally)?;
+    let tally = put_report_of_all_lines(alloc, &mut text, dictionary, task, input)?;
+    put_tally_if_checked(alloc, &mut text, task, tally)?;
     Ok((text.into_bytes(), tally.bad == 0))
 }

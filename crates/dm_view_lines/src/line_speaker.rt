@@ -51,7 +51,7 @@ impl Speaker for LineSpeaker {
         line: &[u8],
         text: &mut String,
     ) -> Result<bool, NoMemory> {
-        if self.tally.next().is_none() {
+        if self.tally.number_of_next().is_none() {
             return Err(NoMemory);
         }
         let verdict = put_line_report(
@@ -63,7 +63,7 @@ impl Speaker for LineSpeaker {
             line,
             &mut self.digits,
         )?;
-        self.tally = self.tally.with(verdict);
+        self.tally = self.tally.with_verdict(verdict);
         Ok(true)
     }
 }

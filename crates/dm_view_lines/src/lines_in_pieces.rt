@@ -1,4 +1,4 @@
-//! Lines that are read in pieces.
+//! Lines that are read in pieces: each is said and gathered once it is whole, and its front is held until then.
 ghost use Rattle.std.specs.Prelude.{◌≡◌, ◌≢◌, ◌≤◌, ◌++◌, All, true, [], length, take, drop};
 ghost use Rattle.std.specs.Prelude.{IfOk, IfErr, OnOk};
 ghost use Rattle.dm_view_lines.specs.Colours.{styled};
@@ -7,8 +7,8 @@ ghost use Rattle.dm_view_lines.specs.Reads.{TellsPiece, BreaksPiece};
 ghost use Rattle.dm_view_lines.specs.Turns.{TellsLines, StopsInTurn, CountsLong};
 ghost use Rattle.std.specs.Str.Lines.{lines};
 
-use crate::files::is_ended;
-use crate::gathered_lines::{LINE_LIMIT, Output, gather_lines};
+use crate::files::is_last_line_ended;
+use crate::gathered_lines::{LINE_LIMIT, Output, say_and_gather_lines};
 use crate::put_fault::PutFault;
 use crate::speaker::Speaker;
 use crate::waiting_text::Style;
@@ -54,8 +54,8 @@ fn hold_piece(seam: &mut Seam, piece: &[u8]) -> Result<(), PutFault>
     Ok(())
 }
 
-/// Says the line that is held and ends with these octets. True where more is to be said.
-fn gather_held_line<S: Speaker, W: Write>(
+/// Says and gathers the line that is held and ends with these octets. True where more is to be said.
+fn say_and_gather_held_line<S: Speaker, W: Write>(
     alloc: Global,
     dictionary: &Dictionary,
     style: Style,
@@ -79,7 +79,7 @@ fn gather_held_line<S: Speaker, W: Write>(
 {
     seam.held.extend_from_slice(front)?;
     let before = seam.lines;
-    let (number, going) = gather_lines(
+    let (number, going) = say_and_gather_lines(
         alloc,
         dictionary,
         style,
@@ -94,9 +94,9 @@ fn gather_held_line<S: Speaker, W: Write>(
     Ok(going)
 }
 
-/// Says the lines that end in these octets, and holds what is left of them; nothing is held before. True where more is
-/// to be said.
-fn gather_whole_lines<S: Speaker, W: Write>(
+/// Says and gathers the lines that end in these octets, and holds what is left of them; nothing is held before. True
+/// where more is to be said.
+fn say_whole_lines_and_hold_rest<S: Speaker, W: Write>(
     alloc: Global,
     dictionary: &Dictionary,
     style: Style,
@@ -120,7 +120,7 @@ fn gather_whole_lines<S: Speaker, W: Write>(
 {
     let end = whole_lines_len(octets);
     let before = seam.lines;
-    let (number, going) = gather_lines(
+    let (number, going) = say_and_gather_lines(
         alloc,
         dictionary,
         style,
@@ -137,9 +137,9 @@ fn gather_whole_lines<S: Speaker, W: Write>(
     Ok(going)
 }
 
-/// Says the lines that end in these octets, the first of which began with what is held, and holds what is left of them.
-/// True where more is to be said.
-pub(crate) fn gather_piece<S: Speaker, W: Write>(
+/// Says and gathers the lines that end in these octets, the first of which began with what is held, and holds what is
+/// left of them. True where more is to be said.
+pub(crate) fn say_and_gather_piece<S: Speaker, W: Write>(
     alloc: Global,
     dictionary: &Dictionary,
     style: Style,
@@ -162,7 +162,7 @@ pub(crate) fn gather_piece<S: Speaker, W: Write>(
         (W.contents writer.old) output.old.waits.items (W.contents writer.new) output.new.waits.items) }
 {
     if seam.held.is_empty() {
-        return gather_whole_lines(
+        return say_whole_lines_and_hold_rest(
             alloc, dictionary, style, speaker, seam, octets, output, writer,
         );
     }
@@ -173,12 +173,12 @@ pub(crate) fn gather_piece<S: Speaker, W: Write>(
         }
         Some(at) => {
             let front = &octets[..at + 1];
-            if !gather_held_line(
+            if !say_and_gather_held_line(
                 alloc, dictionary, style, speaker, seam, front, output, writer,
             )? {
                 return Ok(false);
             }
-            gather_whole_lines(
+            say_whole_lines_and_hold_rest(
                 alloc,
                 dictionary,
                 style,
@@ -192,8 +192,8 @@ pub(crate) fn gather_piece<S: Speaker, W: Write>(
     }
 }
 
-/// Says the line that is held, which ends with the input, where one is. True where more could be said.
-pub(crate) fn gather_last_line<S: Speaker, W: Write>(
+/// Says and gathers the line that is held, which ends with the input, where one is. True where more could be said.
+pub(crate) fn say_and_gather_last_line<S: Speaker, W: Write>(
     alloc: Global,
     dictionary: &Dictionary,
     style: Style,
@@ -213,11 +213,11 @@ pub(crate) fn gather_last_line<S: Speaker, W: Write>(
         seam.old.lines speaker.old (lines (ended seam.old.held.items)) [] fault (W.contents writer.old)
         output.old.waits.items (W.contents writer.new) output.new.waits.items) }
 {
-    if !is_ended(seam.held.as_slice()) {
+    if !is_last_line_ended(seam.held.as_slice()) {
         seam.held.extend_from_slice(b"\n")?;
     }
     let before = seam.lines;
-    let (number, going) = gather_lines(
+    let (number, going) = say_and_gather_lines(
         alloc,
         dictionary,
         style,

@@ -11,10 +11,10 @@ ghost use Rattle.dm_view_lines.specs.Said.{message_answer, refused_said, SaysFro
 
 use crate::front::Front;
 use crate::json_refused::{put_json_checked_refusal, put_json_shown_refusal};
-use crate::json_reports::{put_json_checked, put_json_shown};
+use crate::json_reports::{put_json_checked_message, put_json_shown_message};
 use crate::refused::{put_checked_refusal, put_shown_refusal};
 use dm_dict::{Dictionary, NoMemory};
-use dm_view::{put_check, put_message};
+use dm_view::{put_message, put_verdict_header_and_faults};
 use dm_wire::{MessageRef, WireFault};
 use std::alloc::{AllocError, Global};
 
@@ -34,7 +34,7 @@ pub enum Task {
 /// Appends what is said of octets behind this front. True where they are a good message; one that is shown is good.
 ///
 /// Where memory is wanted, what is appended is of no use.
-pub fn put_octets<F: Front>(
+pub fn put_octets_report<F: Front>(
     alloc: Global,
     text: &mut String,
     dictionary: &Dictionary,
@@ -77,8 +77,8 @@ fn put_message_report<F: Front>(
             Ok(true)
         }
         Task::Check => put_checked_message(alloc, text, dictionary, front, message),
-        Task::ShowJson => put_json_shown(alloc, text, dictionary, front, message),
-        Task::CheckJson => put_json_checked(alloc, text, dictionary, front, message),
+        Task::ShowJson => put_json_shown_message(alloc, text, dictionary, front, message),
+        Task::CheckJson => put_json_checked_message(alloc, text, dictionary, front, message),
     }
 }
 
@@ -94,7 +94,7 @@ fn put_shown_message<F: Front>(
         ++ ((F.before front.now).words
         ++ message_view dictionary.now (record { header = message.now.header; avps = l }))) }
 {
-    front.put_words(text)?;
+    front.put_front_words(text)?;
     put_message(text, dictionary, message)?;
     Ok(())
 }
@@ -114,8 +114,8 @@ fn put_checked_message<F: Front>(
     ensures good { (l : List Avp) → SpellsList l message.now.rest.now → IfOk result (λ good.
         good ≡ are_none (located_faults dictionary.now (record { header = message.now.header; avps = l }))) }
 {
-    front.put_words(text)?;
-    let good = put_check(alloc, text, dictionary, message)?;
+    front.put_front_words(text)?;
+    let good = put_verdict_header_and_faults(alloc, text, dictionary, message)?;
     Ok(good)
 }
 

@@ -8,20 +8,20 @@ use std::simd::prelude::*;
 
 /// True only where a line stands for what one word of all its octets does: they are sixteen or more, nothing stands in
 /// front of the digits, and none may stand between words or begin a comment. Other lines have to be looked at again.
-pub(crate) fn is_one_long_word(line: &[u8]) -> bool
+pub(crate) fn is_surely_one_long_word(line: &[u8]) -> bool
     ensures { result ≡ true → octets_of_line line.now ≡ word_octets line.now }
 {
     if line.len() < 16 {
         return false;
     }
-    if may_have_prefix(line) {
+    if may_have_mark_or_prefix(line) {
         return false;
     }
-    has_no_word_end(line)
+    has_surely_no_word_end(line)
 }
 
 /// False only where neither a byte order mark nor `0x` stands in front.
-fn may_have_prefix(line: &[u8]) -> bool
+fn may_have_mark_or_prefix(line: &[u8]) -> bool
     ensures mark { result ≡ false → without_mark line.now ≡ line.now }
     ensures prefix { result ≡ false → without_prefix line.now ≡ line.now }
 {
@@ -31,8 +31,8 @@ fn may_have_prefix(line: &[u8]) -> bool
     }
 }
 
-/// True only where no octet of the line ends a word.
-fn has_no_word_end(line: &[u8]) -> bool
+/// True only where no octet of the line ends a word. Of other lines it says nothing.
+fn has_surely_no_word_end(line: &[u8]) -> bool
     requires { 16 ≤ length line.now }
     ensures { result ≡ true → NoneEnds line.now (length line.now) }
 {

@@ -9,22 +9,22 @@ ghost use Rattle.dm_view_lines.specs.Reasons.{refusal_sentence};
 ghost use Rattle.dm_view_lines.specs.Said.{front_shown, front_checked, before_refusal};
 
 use crate::front::Front;
-use crate::header::header_of;
+use crate::header::header_at_front;
 use crate::refusal_words::put_refusal_line;
 use dm_dict::Dictionary;
-use dm_view::{put_header, put_message};
-use dm_wire::laws::spelled_are_members;
+use dm_view::{put_header_line, put_message};
+use dm_wire::laws::spelled_avps_are_members;
 use dm_wire::{MessageRef, WireFault};
 use std::alloc::AllocError;
 
 /// The message up to the first bad AVP, which begins at this octet.
-pub(crate) fn message_to_bad_avp(octets: &[u8], offset: usize) -> MessageRef<'_>
+pub(crate) fn message_before_bad_avp(octets: &[u8], offset: usize) -> MessageRef<'_>
     requires bad { IsBadAt 20 octets.now offset }
     ensures header { result.header ≡ header_in octets.now }
     ensures avps { SpellsList (avps_before octets.now offset) result.rest.now }
 {
-    spelled_are_members();
-    let header = header_of(octets);
+    spelled_avps_are_members();
+    let header = header_at_front(octets);
     let front = &octets[..offset];
     MessageRef {
         header,
@@ -33,7 +33,7 @@ pub(crate) fn message_to_bad_avp(octets: &[u8], offset: usize) -> MessageRef<'_>
 }
 
 /// Appends the message up to the bad AVP, in names and values, before the refusal; nothing where the fault is another.
-fn put_front_shown(
+fn put_message_before_refusal(
     text: &mut String,
     dictionary: &Dictionary,
     octets: &[u8],
@@ -45,7 +45,7 @@ fn put_front_shown(
 {
     match fault {
         WireFault::AvpLength(offset) => {
-            put_message(text, dictionary, &message_to_bad_avp(octets, offset))?;
+            put_message(text, dictionary, &message_before_bad_avp(octets, offset))?;
             text.push_str("  ")?;
             Ok(())
         }
@@ -58,7 +58,7 @@ fn put_front_shown(
 }
 
 /// Appends `bad` and the header of a message with a bad AVP, before the refusal; nothing where the fault is another.
-fn put_front_checked(
+fn put_header_before_refusal(
     text: &mut String,
     dictionary: &Dictionary,
     octets: &[u8],
@@ -71,7 +71,11 @@ fn put_front_checked(
     match fault {
         WireFault::AvpLength(offset) => {
             text.push_str("bad ")?;
-            put_header(text, dictionary, &message_to_bad_avp(octets, offset).header)?;
+            put_header_line(
+                text,
+                dictionary,
+                &message_before_bad_avp(octets, offset).header,
+            )?;
             text.push_str("  ")?;
             Ok(())
         }
@@ -95,8 +99,8 @@ pub(crate) fn put_shown_refusal<F: Front>(
     ensures { OnOk result (string_bytes text.new ≡ string_bytes text.old ++ ((F.before front.now).words
         ++ (before_refusal (front_shown dictionary.now) octets.now fault ++ refusal_sentence fault ++ 10 ∷ []))) }
 {
-    front.put_words(text)?;
-    put_front_shown(text, dictionary, octets, fault)?;
+    front.put_front_words(text)?;
+    put_message_before_refusal(text, dictionary, octets, fault)?;
     put_refusal_line(text, fault)?;
     Ok(())
 }
@@ -113,8 +117,8 @@ pub(crate) fn put_checked_refusal<F: Front>(
     ensures { OnOk result (string_bytes text.new ≡ string_bytes text.old ++ ((F.before front.now).words
         ++ (before_refusal (front_checked dictionary.now) octets.now fault ++ refusal_sentence fault ++ 10 ∷ []))) }
 {
-    front.put_words(text)?;
-    put_front_checked(text, dictionary, octets, fault)?;
+    front.put_front_words(text)?;
+    put_header_before_refusal(text, dictionary, octets, fault)?;
     put_refusal_line(text, fault)?;
     Ok(())
 }

@@ -7,15 +7,17 @@ ghost use Rattle.dm_view_lines.specs.Ending.{EndsLines, EndsStream};
 ghost use Rattle.dm_view_lines.specs.LineEnds.{ended};
 ghost use Rattle.dm_view_lines.specs.declared.gathered_lines.TheConstants.{LINE_LIMIT as line_limit};
 
-use crate::buffered_lines::say_buffered_lines;
-use crate::ending::{write_lines_end, write_stream_end};
+use crate::buffered_lines::say_and_count_reader_lines;
+use crate::ending::{write_ending_of_lines, write_ending_of_stream};
 use crate::line_speaker::LineSpeaker;
 use crate::message_reports::Task;
 use crate::run_fault::RunFault;
 use crate::stream_speaker::StreamSpeaker;
 use crate::waiting_text::Style;
 use dm_dict::Dictionary;
-use dm_framer::laws::{cuts, fault_stays, whole_frames};
+use dm_framer::laws::{
+    cuts_change_no_frames, faults_of_streams_stay, frames_in_a_row_stay_themselves,
+};
 use std::alloc::Global;
 use std::io::{BufRead, Write};
 
@@ -44,11 +46,19 @@ pub fn say_lines<R: BufRead, W: Write>(
 {
     let style = Style { task, coloured };
     let mut speaker = LineSpeaker::new(alloc);
-    let said = say_buffered_lines(alloc, dictionary, style, &mut speaker, 0, reader, writer);
+    let said = say_and_count_reader_lines(
+        alloc,
+        dictionary,
+        style,
+        &mut speaker,
+        0,
+        reader,
+        writer,
+    );
     let tally = speaker.tally();
     drop(speaker);
     match said {
-        Ok(_) => write_lines_end(alloc, style, tally, writer),
+        Ok(_) => write_ending_of_lines(alloc, style, tally, writer),
         Err(fault) => Err(fault),
     }
 }
@@ -69,17 +79,25 @@ pub fn say_stream<R: BufRead, W: Write>(
     ensures stopped { IfErr result (λ fault. EndsStream coloured task dictionary.now fault (R.remaining reader.old)
         (R.remaining reader.new) (W.contents writer.old) (W.contents writer.new)) }
 {
-    cuts();
-    fault_stays();
-    whole_frames();
+    cuts_change_no_frames();
+    faults_of_streams_stay();
+    frames_in_a_row_stay_themselves();
     let style = Style { task, coloured };
     let mut speaker = StreamSpeaker::new(alloc);
-    let said = say_buffered_lines(alloc, dictionary, style, &mut speaker, 0, reader, writer);
+    let said = say_and_count_reader_lines(
+        alloc,
+        dictionary,
+        style,
+        &mut speaker,
+        0,
+        reader,
+        writer,
+    );
     let tally = speaker.tally();
-    let stop = speaker.stop();
+    let stop = speaker.why_stopped();
     drop(speaker);
     match said {
-        Ok(_) => write_stream_end(alloc, style, tally, stop, writer),
+        Ok(_) => write_ending_of_stream(alloc, style, tally, stop, writer),
         Err(fault) => Err(fault),
     }
 }

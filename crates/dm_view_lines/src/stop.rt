@@ -1,12 +1,12 @@
-//! Why a stream is read no further (RFC 6733, 3 and 7.1.5).
+//! Why a stream is read no further, a fault of a frame among it, and how that is said (RFC 6733, 3 and 7.1.5).
 ghost use Rattle.std.specs.Prelude.{◌≡◌, ◌++◌, ◌+◌, ℕ, List, None, length, IfOk, OnOk};
 ghost use Rattle.std.specs.String.{string_bytes};
 ghost use Rattle.dm_view_lines.specs.Counts.{tallied, tally_of};
 ghost use Rattle.dm_view_lines.specs.Frames.{stream_refusal, line_stopped, part_words, stop_line, stop_text};
 ghost use Rattle.dm_view_lines.specs.Frames.{stop_of, stop_verdict};
 
-use crate::bad_line::put_bad_line;
-use crate::json_parts::put_error_line;
+use crate::bad_line::put_numbered_error_report;
+use crate::json_parts::put_json_error_line;
 use crate::message_reports::Task;
 use crate::refusal_words::refusal_sentence;
 use crate::tally::Tally;
@@ -27,7 +27,7 @@ pub(crate) enum Stop {
 }
 
 /// That a stream ends in the middle of a message, of which so many octets are left; None where none are.
-pub(crate) fn partial_stop(held: usize) -> Option<Stop>
+pub(crate) fn stop_if_octets_left(held: usize) -> Option<Stop>
     ensures { (rest : List ℕ) → held ≡ length rest → result ≡ stop_of rest None None }
 {
     if held == 0 {
@@ -37,7 +37,7 @@ pub(crate) fn partial_stop(held: usize) -> Option<Stop>
 }
 
 /// The refusal of octets that no message begins with.
-fn wire_fault(fault: FrameFault) -> WireFault
+fn wire_fault_of_frame(fault: FrameFault) -> WireFault
     ensures { result ≡ stream_refusal fault }
 {
     match fault {
@@ -49,7 +49,7 @@ fn wire_fault(fault: FrameFault) -> WireFault
 }
 
 /// Appends that the line of this number is no hexadecimal.
-fn put_no_hex_line(
+fn put_not_hexadecimal_report(
     alloc: Global,
     text: &mut String,
     task: Task,
@@ -59,8 +59,8 @@ fn put_no_hex_line(
 {
     match task {
         Task::Show | Task::Check => writeln!(text, "line {line}: no hexadecimal"),
-        Task::ShowJson => put_error_line(alloc, text, "line", line, false, "no hexadecimal"),
-        Task::CheckJson => put_error_line(alloc, text, "line", line, true, "no hexadecimal"),
+        Task::ShowJson => put_json_error_line(alloc, text, "line", line, false, "no hexadecimal"),
+        Task::CheckJson => put_json_error_line(alloc, text, "line", line, true, "no hexadecimal"),
     }
 }
 
@@ -76,26 +76,26 @@ fn put_stop_line(
 {
     match stop {
         Stop::Fault(fault) => {
-            let words = refusal_sentence(alloc, wire_fault(fault))?;
-            put_bad_line(alloc, text, task, number, words.as_str())
+            let words = refusal_sentence(alloc, wire_fault_of_frame(fault))?;
+            put_numbered_error_report(alloc, text, task, number, words.as_str())
         }
-        Stop::Line(line) => put_no_hex_line(alloc, text, task, line),
+        Stop::Line(line) => put_not_hexadecimal_report(alloc, text, task, line),
         Stop::Part(size) => {
-            let words = part_words(alloc, size)?;
-            put_bad_line(alloc, text, task, number, words.as_str())
+            let words = partial_message_words(alloc, size)?;
+            put_numbered_error_report(alloc, text, task, number, words.as_str())
         }
     }
 }
 
 /// That a stream ends inside a message of which so many octets are there.
-fn part_words(alloc: Global, size: usize) -> Result<String, AllocError>
+fn partial_message_words(alloc: Global, size: usize) -> Result<String, AllocError>
     ensures { IfOk result (λ words. string_bytes words ≡ part_words size) }
 {
     format!(in alloc; "no message: the stream ends inside it, at octet {size}")
 }
 
 /// Appends why a stream is read no further, where something is left of it or lost, and counts it as bad.
-pub(crate) fn put_stop(
+pub(crate) fn put_and_count_stop(
     alloc: Global,
     text: &mut String,
     task: Task,
@@ -108,9 +108,9 @@ pub(crate) fn put_stop(
     let Some(stop) = stop else {
         return Ok(tally);
     };
-    let Some(number) = tally.next() else {
+    let Some(number) = tally.number_of_next() else {
         return Err(NoMemory);
     };
     put_stop_line(alloc, text, task, number, stop)?;
-    Ok(tally.with(Some(false)))
+    Ok(tally.with_verdict(Some(false)))
 }

@@ -10,21 +10,23 @@ ghost use Rattle.dm_view_lines.specs.Counts.{tallied};
 ghost use Rattle.dm_view_lines.specs.Digits.{octets_of_line};
 ghost use Rattle.dm_view_lines.specs.Frames.{stream_of, bad_line, stop_of, SaysFrames, SaysStream};
 
-use crate::frames::{Reading, put_frames};
-use crate::hexadecimal::read_line;
+use crate::frames::{Reading, take_frames_and_put_reports};
+use crate::hexadecimal::read_hex_line;
 use crate::message_reports::Task;
-use crate::stop::{Stop, partial_stop, put_stop};
-use crate::tally::{Tally, put_last};
+use crate::stop::{Stop, put_and_count_stop, stop_if_octets_left};
+use crate::tally::{Tally, put_tally_if_checked};
 use dm_dict::{Dictionary, NoMemory};
 use dm_framer::Framer;
-use dm_framer::laws::{cuts, fault_stays, whole_frames};
+use dm_framer::laws::{
+    cuts_change_no_frames, faults_of_streams_stay, frames_in_a_row_stay_themselves,
+};
 use dm_text::Lines;
-use dm_text::laws::lines_are_joined;
+use dm_text::laws::lines_of_parts_are_lines_of_whole;
 use dm_wire::codes::limits::MAX_MESSAGE_LEN;
 use std::alloc::Global;
 
 /// Adds a piece to the octets that the framer holds, and appends what is said of the messages that are whole then.
-fn put_stream_piece(
+fn feed_piece_and_put_reports(
     alloc: Global,
     text: &mut String,
     dictionary: &Dictionary,
@@ -49,7 +51,7 @@ fn put_stream_piece(
     if framer.feed(piece).is_err() {
         return Err(NoMemory);
     }
-    put_frames(
+    take_frames_and_put_reports(
         alloc,
         text,
         dictionary,
@@ -62,7 +64,7 @@ fn put_stream_piece(
 /// Adds the octets of the line of this number to those that the framer holds, and appends what is said of the messages
 /// that are whole then. Returns why the stream stops at this line, None where it goes on. Where the line is no
 /// hexadecimal nothing is added.
-pub(crate) fn put_stream_line(
+pub(crate) fn feed_line_and_put_reports(
     alloc: Global,
     text: &mut String,
     dictionary: &Dictionary,
@@ -86,10 +88,10 @@ pub(crate) fn put_stream_line(
     ensures held { IfOk result (λ read. read.0.held ≡ length framer.new.octets) }
     ensures kept { IfOk result (λ _. framer.new ≡ record framer.old { octets = framer.new.octets }) }
 {
-    let Some(piece) = read_line(alloc, line, digits)? else {
+    let Some(piece) = read_hex_line(alloc, line, digits)? else {
         return Ok((reading, Some(Stop::Line(number))));
     };
-    let read = put_stream_piece(
+    let read = feed_piece_and_put_reports(
         alloc,
         text,
         dictionary,
@@ -103,7 +105,7 @@ pub(crate) fn put_stream_line(
 
 /// Appends what is said of the messages of the lines of an input as one stream. It tells how many are good and bad, and
 /// why the stream is read no further, where something is left of it or lost.
-fn put_stream(
+fn put_stream_report(
     alloc: Global,
     text: &mut String,
     dictionary: &Dictionary,
@@ -115,10 +117,10 @@ fn put_stream(
         × SaysFrames task dictionary.now 1 (stream_of (lines input.now)) rest fault more read.0
         × (read.1 ≡ stop_of rest fault (bad_line 1 (lines input.now)))) }
 {
-    lines_are_joined();
-    cuts();
-    fault_stays();
-    whole_frames();
+    lines_of_parts_are_lines_of_whole();
+    cuts_change_no_frames();
+    faults_of_streams_stay();
+    frames_in_a_row_stay_themselves();
     let mut framer = Framer::new(alloc, MAX_MESSAGE_LEN);
     let mut digits = Vec::new(alloc);
     let mut reading = Reading {
@@ -129,7 +131,7 @@ fn put_stream(
     let mut number: u64 = 0;
     for line in Lines::new(input) {
         number += 1;
-        let (read, stop) = put_stream_line(
+        let (read, stop) = feed_line_and_put_reports(
             alloc,
             text,
             dictionary,
@@ -145,11 +147,11 @@ fn put_stream(
             return Ok((reading.tally, stop));
         }
     }
-    Ok((reading.tally, partial_stop(reading.held)))
+    Ok((reading.tally, stop_if_octets_left(reading.held)))
 }
 
 /// What is said of the lines of an input as one stream, and whether all of it is good.
-pub fn stream_text(
+pub fn stream_report(
     alloc: Global,
     dictionary: &Dictionary,
     task: Task,
@@ -158,8 +160,8 @@ pub fn stream_text(
     ensures { IfOk result (λ said. SaysStream task dictionary.now input.now said.0.items said.1) }
 {
     let mut text = String::new(alloc);
-    let (counted, stop) = put_stream(alloc, &mut text, dictionary, task, input)?;
-    let tally = put_stop(alloc, &mut text, task, counted, stop)?;
-    put_last(alloc, &mut text, task, tally)?;
+    let (counted, stop) = put_stream_report(alloc, &mut text, dictionary, task, input)?;
+    let tally = put_and_count_stop(alloc, &mut text, task, counted, stop)?;
+    put_tally_if_checked(alloc, &mut text, task, tally)?;
     Ok((text.into_bytes(), tally.bad == 0))
 }

@@ -7,8 +7,8 @@ ghost use Rattle.dm_view_lines.specs.Speakers.{ReadsLine, StreamGoes};
 use crate::frames::Reading;
 use crate::message_reports::Task;
 use crate::speaker::Speaker;
-use crate::stop::{Stop, partial_stop};
-use crate::stream_lines::put_stream_line;
+use crate::stop::{Stop, stop_if_octets_left};
+use crate::stream_lines::feed_line_and_put_reports;
 use crate::tally::Tally;
 use dm_dict::{Dictionary, NoMemory};
 use dm_framer::Framer;
@@ -52,14 +52,14 @@ impl StreamSpeaker {
     }
 
     /// Why the stream is read no further, once its lines were read, where something is left of it or lost.
-    pub(crate) fn stop(&self) -> Option<Stop>
+    pub(crate) fn why_stopped(&self) -> Option<Stop>
         ensures stopped { is_some self.now.stop ≡ true → result ≡ self.now.stop }
         ensures going { self.now.stop ≡ None → (rest : List ℕ) → self.now.reading.held ≡ length rest
             → result ≡ stop_of rest None None }
     {
         match self.stop {
             Some(stop) => Some(stop),
-            None => partial_stop(self.reading.held),
+            None => stop_if_octets_left(self.reading.held),
         }
     }
 }
@@ -79,7 +79,7 @@ impl Speaker for StreamSpeaker {
         text: &mut String,
     ) -> Result<bool, NoMemory> {
         let reading = self.reading;
-        let (read, stop) = put_stream_line(
+        let (read, stop) = feed_line_and_put_reports(
             alloc,
             text,
             dictionary,

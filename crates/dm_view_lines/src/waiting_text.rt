@@ -1,13 +1,15 @@
-//! What is said, gathered before it is written.
+//! What is said, in its style: gathered before it is written, or written at once.
 ghost use Rattle.std.specs.Prelude.{◌≡◌, ◌++◌, [], IfErr, OnOk, OnErr};
 ghost use Rattle.std.specs.Io.KnownBytes.{Appends};
 ghost use Rattle.dm_view_lines.specs.Colours.{styled};
+ghost use Rattle.dm_view_lines.specs.Ending.{FailsAtEnd};
+ghost use Rattle.dm_view_lines.specs.Faults.{run_fault};
 ghost use Rattle.dm_view_lines.specs.Turns.{Gathers, Leaves, text_left, FailsToWrite, IsOfOutput};
 
 use crate::colours::coloured_text;
 use crate::message_reports::Task;
 use crate::put_fault::PutFault;
-use dm_io::write_text;
+use dm_io::write_text_and_flush;
 use std::alloc::{AllocError, Global};
 use std::io::Write;
 
@@ -24,13 +26,13 @@ pub struct Style {
 }
 
 /// Writes what waits, and then nothing does. Where the writer fails a front of it was written.
-pub fn write_waiting<W: Write>(waits: &mut Vec<u8>, writer: &mut W) -> Result<(), PutFault>
+pub fn write_waiting_text<W: Write>(waits: &mut Vec<u8>, writer: &mut W) -> Result<(), PutFault>
     ensures written { OnOk result (Appends (W.contents writer.old) (W.contents writer.new) waits.old.items) }
     ensures none { OnOk result (waits.new.items ≡ []) }
     ensures stopped { IfErr result (λ fault.
         FailsToWrite fault (W.contents writer.old) (W.contents writer.new) waits.old.items) }
 {
-    match write_text(writer, waits.as_slice()) {
+    match write_text_and_flush(writer, waits.as_slice()) {
         Ok(()) => {
             waits.clear();
             Ok(())
@@ -40,7 +42,7 @@ pub fn write_waiting<W: Write>(waits: &mut Vec<u8>, writer: &mut W) -> Result<()
 }
 
 /// Appends a text in its style to what waits; where that fails nothing of it.
-pub(crate) fn push_styled(
+fn push_styled_text(
     alloc: Global,
     style: Style,
     text: &[u8],
@@ -60,7 +62,7 @@ pub(crate) fn push_styled(
 ///
 /// Where memory is wanted nothing of the text is gathered or written. Where the writer fails a front of all was
 /// written.
-pub fn push_text<W: Write>(
+pub fn gather_or_write_text<W: Write>(
     alloc: Global,
     style: Style,
     text: &[u8],
@@ -73,9 +75,26 @@ pub fn push_text<W: Write>(
         (W.contents writer.new) waits.new.items (text_left fault (styled style.coloured style.task text.now))) }
     ensures fault { IfErr result IsOfOutput }
 {
-    push_styled(alloc, style, text, waits)?;
+    push_styled_text(alloc, style, text, waits)?;
     if waits.len() < GATHERED {
         return Ok(());
     }
-    write_waiting(waits, writer)
+    write_waiting_text(waits, writer)
+}
+
+/// Writes a text in its style. Where memory is wanted nothing of it is written, where the writer fails a front.
+pub fn write_text_in_style<W: Write>(
+    alloc: Global,
+    style: Style,
+    text: &[u8],
+    writer: &mut W,
+) -> Result<(), PutFault>
+    ensures written { OnOk result (Appends (W.contents writer.old) (W.contents writer.new)
+        (styled style.coloured style.task text.now)) }
+    ensures stopped { IfErr result (λ fault. FailsAtEnd (run_fault fault) (W.contents writer.old)
+        (W.contents writer.new) (styled style.coloured style.task text.now)) }
+{
+    let mut waits = Vec::new(alloc);
+    push_styled_text(alloc, style, text, &mut waits)?;
+    write_waiting_text(&mut waits, writer)
 }

@@ -5,29 +5,29 @@ ghost use Rattle.dm_view_lines.specs.Colours.{styled, SaysStyled, SaysStreamStyl
 ghost use Rattle.dm_view_lines.specs.Run.{EndsBy};
 
 use crate::colours::coloured_text;
-use crate::line_reports::lines_text;
+use crate::line_reports::lines_report;
 use crate::lines_fault::LinesFault;
 use crate::message_reports::Task;
-use crate::stream_lines::stream_text;
+use crate::stream_lines::stream_report;
 use dm_dict::Dictionary;
-use dm_io::write_text;
+use dm_io::write_text_and_flush;
 use std::alloc::Global;
 use std::io::Write;
 
 /// Writes a text.
-fn write_plain<W: Write>(text: &[u8], writer: &mut W) -> Result<(), LinesFault>
+fn write_plain_text<W: Write>(text: &[u8], writer: &mut W) -> Result<(), LinesFault>
     ensures written { OnOk result (Appends (W.contents writer.old) (W.contents writer.new) text.now) }
     ensures stopped { IfErr result (EndsBy (λ whole good. whole ≡ text.now) (W.contents writer.old)
         (W.contents writer.new)) }
 {
-    match write_text(writer, text) {
+    match write_text_and_flush(writer, text) {
         Ok(()) => Ok(()),
         Err(error) => Err(LinesFault::Write(error)),
     }
 }
 
 /// Writes a text with colours for a terminal or without.
-fn write_styled<W: Write>(
+fn write_plain_or_coloured_text<W: Write>(
     alloc: Global,
     task: Task,
     coloured: bool,
@@ -40,17 +40,17 @@ fn write_styled<W: Write>(
         (W.contents writer.new)) }
 {
     if !coloured {
-        return write_plain(text, writer);
+        return write_plain_text(text, writer);
     }
     let made = coloured_text(alloc, task, text)?;
-    write_plain(made.as_slice(), writer)
+    write_plain_text(made.as_slice(), writer)
 }
 
 /// Writes what is said of the lines of an input, with colours for a terminal or without. True where none of them is
 /// bad.
 ///
 /// Where memory is wanted nothing is written. Where the writer fails a front of the text was written.
-pub fn write_lines<W: Write>(
+pub fn write_lines_report<W: Write>(
     alloc: Global,
     dictionary: &Dictionary,
     task: Task,
@@ -63,8 +63,8 @@ pub fn write_lines<W: Write>(
     ensures stopped { IfErr result (EndsBy (SaysStyled coloured task dictionary.now input.now)
         (W.contents writer.old) (W.contents writer.new)) }
 {
-    let (text, good) = lines_text(alloc, dictionary, task, input)?;
-    match write_styled(alloc, task, coloured, text.as_slice(), writer) {
+    let (text, good) = lines_report(alloc, dictionary, task, input)?;
+    match write_plain_or_coloured_text(alloc, task, coloured, text.as_slice(), writer) {
         Ok(()) => Ok(good),
         Err(fault) => Err(fault),
     }
@@ -74,7 +74,7 @@ pub fn write_lines<W: Write>(
 /// of it is good.
 ///
 /// Where memory is wanted nothing is written. Where the writer fails a front of the text was written.
-pub fn write_stream<W: Write>(
+pub fn write_stream_report<W: Write>(
     alloc: Global,
     dictionary: &Dictionary,
     task: Task,
@@ -88,8 +88,8 @@ pub fn write_stream<W: Write>(
     ensures stopped { IfErr result (EndsBy (SaysStreamStyled coloured task dictionary.now input.now)
         (W.contents writer.old) (W.contents writer.new)) }
 {
-    let (text, is_good) = stream_text(alloc, dictionary, task, input)?;
-    match write_styled(alloc, task, coloured, text.as_slice(), writer) {
+    let (text, is_good) = stream_report(alloc, dictionary, task, input)?;
+    match write_plain_or_coloured_text(alloc, task, coloured, text.as_slice(), writer) {
         Ok(()) => Ok(is_good),
         Err(fault) => Err(fault),
     }

@@ -46,7 +46,7 @@ fn avp_header_front(avp: AvpRef<'_>, length: u32) -> [u8; 8]
 
 /// The Vendor-ID field, appended where there is one.
 #[inline(always)]
-fn push_vendor(out: &mut Vec<u8>, vendor: Option<u32>) -> Result<(), AllocError>
+fn push_vendor_id_if_some(out: &mut Vec<u8>, vendor: Option<u32>) -> Result<(), AllocError>
     ensures { OnOk result (out.new.items ≡ out.old.items ++ vendor_octets vendor) }
 {
     if let Some(vendor) = vendor {
@@ -80,7 +80,7 @@ fn push_fitting_avp(out: &mut Vec<u8>, avp: AvpRef<'_>, length: usize) -> Result
 {
     let header = avp_header_front(avp, length as u32);
     out.extend_from_slice(&header)?;
-    push_vendor(out, avp.vendor)?;
+    push_vendor_id_if_some(out, avp.vendor)?;
     out.extend_from_slice(avp.bytes)?;
     push_padding(out, length)?;
     Ok(())
@@ -153,7 +153,7 @@ pub fn header_octets(header: Header, size: u32) -> Option<[u8; 20]>
 
 /// The AVP, whose Length this is and fits its field, written in the room, which is as long as it and zero.
 #[inline(always)]
-fn write_fitting_avp(room: &mut [u8], avp: AvpRef<'_>, length: usize)
+fn fill_with_fitting_avp(room: &mut [u8], avp: AvpRef<'_>, length: usize)
     requires length { length ≡ avp_length (avp_of avp) }
     requires fits { avp_length (avp_of avp) < 256 ^ 3 }
     requires zero { room.old ≡ replicate ((length + 3) / 4 * 4) 0 }
@@ -171,7 +171,7 @@ fn write_fitting_avp(room: &mut [u8], avp: AvpRef<'_>, length: usize)
 }
 
 /// The AVPs, written one after the other in the room, which is as long as they and zero.
-fn write_avp_list(room: &mut [u8], avps: &[Avp])
+fn fill_with_avps(room: &mut [u8], avps: &[Avp])
     requires spelled { SpellsList avps.now (canonical_list avps.now) }
     requires zero { room.old ≡ replicate (length (canonical_list avps.now)) 0 }
     ensures { room.new ≡ canonical_list avps.now }
@@ -182,18 +182,18 @@ fn write_avp_list(room: &mut [u8], avps: &[Avp])
         let avp = avp.borrowed();
         let length = avp_header_len(avp.vendor) + avp.bytes.len();
         let end = place + (length + 3) / 4 * 4;
-        write_fitting_avp(&mut room[place..end], avp, length);
+        fill_with_fitting_avp(&mut room[place..end], avp, length);
         place = end;
         left = rest;
     }
 }
 
 /// The message of this header, written in the room, which is as long as it and zero.
-pub(crate) fn write_message(room: &mut [u8], header: &[u8; 20], avps: &[Avp])
+pub(crate) fn fill_with_message(room: &mut [u8], header: &[u8; 20], avps: &[Avp])
     requires spelled { SpellsList avps.now (canonical_list avps.now) }
     requires zero { room.old ≡ replicate (20 + length (canonical_list avps.now)) 0 }
     ensures { room.new ≡ header.now ++ canonical_list avps.now }
 {
     room[..20].copy_from_slice(header);
-    write_avp_list(&mut room[20..], avps);
+    fill_with_avps(&mut room[20..], avps);
 }

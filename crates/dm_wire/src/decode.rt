@@ -34,7 +34,11 @@ fn count_avps_if_few(octets: &[u8]) -> usize
 /// Copies of the AVPs at the front of the octets, pushed one after the other; true only where the octets are no more.
 // (A function of its own in the machine's code too: among its caller's values the loop would lack registers.)
 #[inline(never)]
-fn push_decoded_avps(alloc: Global, avps: &mut Vec<Avp>, octets: &[u8]) -> Result<bool, AllocError>
+fn push_all_decoded_avps(
+    alloc: Global,
+    avps: &mut Vec<Avp>,
+    octets: &[u8],
+) -> Result<bool, AllocError>
     requires empty { avps.old.items ≡ [] }
     ensures { result ≡ Ok true → SpellsList avps.new.items octets.now }
 {
@@ -48,11 +52,11 @@ fn push_decoded_avps(alloc: Global, avps: &mut Vec<Avp>, octets: &[u8]) -> Resul
 }
 
 /// Copies of the AVPs that the octets are. `None` where they are no AVPs, or memory runs out.
-fn copy_avps(alloc: Global, octets: &[u8]) -> Option<Vec<Avp>>
+fn copy_spelled_avps(alloc: Global, octets: &[u8]) -> Option<Vec<Avp>>
     ensures { IfSome result (λ avps. SpellsList avps.items octets.now) }
 {
     let mut avps = Vec::with_capacity(alloc, count_avps_if_few(octets)).ok()?;
-    match push_decoded_avps(alloc, &mut avps, octets) {
+    match push_all_decoded_avps(alloc, &mut avps, octets) {
         Ok(true) => Some(avps),
         _ => None,
     }
@@ -86,7 +90,7 @@ fn read_message(alloc: Global, octets: &[u8]) -> Result<Message, WireFault>
         ((m : Message) × (fault ≡ WireFault.NoMemory) × SpellsMessage m octets.now) ⊎ Refuses octets.now fault) }
 {
     let header = read_header(octets)?;
-    let Some(avps) = copy_avps(alloc, &octets[HEADER_LEN..]) else {
+    let Some(avps) = copy_spelled_avps(alloc, &octets[HEADER_LEN..]) else {
         return Err(message_fault_or_no_memory(octets));
     };
     Ok(Message {
@@ -148,7 +152,7 @@ pub fn decode_avps(alloc: Global, octets: &[u8]) -> Result<Vec<Avp>, WireFault>
     // Memory is wanted only for a list that is spelled.
     ensures memory { IsErrOf result WireFault.NoMemory → (l : List Avp) × SpellsList l octets.now }
 {
-    match copy_avps(alloc, octets) {
+    match copy_spelled_avps(alloc, octets) {
         Some(avps) => Ok(avps),
         None => Err(list_fault_or_no_memory(octets)),
     }

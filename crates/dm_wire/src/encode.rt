@@ -4,7 +4,7 @@ ghost use Rattle.dm_wire.specs.Spelling.{SpellsList, SpellsMessage};
 ghost use Rattle.dm_wire.specs.Canonical.{canonical_list, canonical_header, canonical_message, message_size};
 ghost use Rattle.dm_wire.specs.Limits.{IsLongList, IsLongMessage};
 
-use crate::avp_and_header_octets::{header_octets, push_avp_list, write_message};
+use crate::avp_and_header_octets::{fill_with_message, header_octets, push_avp_list};
 use crate::codes::limits::{HEADER_LEN, MAX_MESSAGE_LEN};
 use crate::size::avp_list_size;
 use crate::{Avp, Message, WireFault};
@@ -58,7 +58,7 @@ fn message_avps_size(avps: &[Avp]) -> Option<usize>
 
 /// The header of the message as octets, and how many octets the whole takes. `None` where a field is
 /// too small for what it must hold.
-fn header_and_size(message: &Message) -> Option<([u8; 20], usize)>
+fn header_octets_and_size(message: &Message) -> Option<([u8; 20], usize)>
     ensures header { IfSome result (λ sized. sized.0 ≡ canonical_header message.now.header (message_size message.now)) }
     ensures size { IfSome result (λ sized. sized.1 ≡ message_size message.now) }
     ensures list { IfSome result (λ sized. SpellsList message.now.avps (canonical_list message.now.avps)) }
@@ -85,12 +85,12 @@ impl Message {
         ensures unspelled { IsErrOf result WireFault.TooLong ↔ ((s : List ℕ) → SpellsMessage self.now s → ⊥) }
         ensures fault { IfErr result (λ fault. (fault ≡ WireFault.TooLong) ⊎ (fault ≡ WireFault.NoMemory)) }
     {
-        let Some(sized) = header_and_size(self) else {
+        let Some(sized) = header_octets_and_size(self) else {
             return Err(WireFault::TooLong);
         };
         let (header, size) = sized;
         let mut octets = vec![in alloc; 0; size]?;
-        write_message(octets.as_mut_slice(), &header, self.avps.as_slice());
+        fill_with_message(octets.as_mut_slice(), &header, self.avps.as_slice());
         Ok(octets)
     }
 }

@@ -16,7 +16,7 @@ impl Avp {
         ensures some { IfSome result (λ n. (n ≡ avp_length self.now) × (n ≤ max_avp_len)) }
         ensures none { IfNone result (IsLongAvp self.now) }
     {
-        let length = avp_len(self);
+        let length = unpadded_avp_len(self);
         if length > MAX_AVP_LEN as usize {
             return None;
         }
@@ -46,7 +46,7 @@ pub(crate) fn avp_header_len(vendor: Option<u32>) -> usize
 }
 
 /// The octets of header and data.
-fn avp_len(avp: &Avp) -> usize
+fn unpadded_avp_len(avp: &Avp) -> usize
     ensures len { result ≡ avp_length avp.now }
     ensures fits { result < 2 ^ 64 - 3 }
     ensures spelled { result ≤ max_avp_len → SpellsAvp avp.now (canonical_avp avp.now) }
@@ -76,7 +76,7 @@ pub(crate) fn avp_list_size(avps: &[Avp]) -> Option<usize>
     let mut size: usize = 0;
     let mut long: usize = 0;
     for avp in avps {
-        let length = avp_len(avp);
+        let length = unpadded_avp_len(avp);
         long += one_if_too_long(length);
         size = size.wrapping_add((length + 3) / 4 * 4);
     }

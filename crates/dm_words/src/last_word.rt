@@ -5,7 +5,7 @@ ghost use Rattle.dm_text.specs.Words.{words};
 use dm_text::Words;
 
 /// The next word, where it is the last one; None where there is none, or another behind it.
-pub fn word_alone<'a>(left: &mut Words<'a>) -> Option<&'a [u8]>
+pub fn only_word_left<'a>(left: &mut Words<'a>) -> Option<&'a [u8]>
     ensures told { IfSome result (λ word. words left.old ≡ word.now ∷ []) }
     ensures none { IfNone result ((word : List ℕ) → words left.old ≡ word ∷ [] → ⊥) }
 {

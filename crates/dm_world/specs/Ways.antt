@@ -1,6 +1,6 @@
 -- What goes into a direction, and what leaves it.
 use Rattle.std.specs.Prelude.{ℕ, ◌+◌, List, [], ◌∷◌}
-use Rattle.dm_two_peers.specs.Links.{Direction, LinkPhase, LinkUp, NoMark, Coming, Delivered}
+use Rattle.dm_two_peers.specs.Links.{Direction, LinkUp, NoMark, Coming, Delivered}
 use Rattle.dm_two_peers.specs.Links as links
 use Rattle.dm_two_peers.specs.Steps.{queued, marked}
 use Rattle.dm_world.specs.declared.direction.Mark.{Mark}

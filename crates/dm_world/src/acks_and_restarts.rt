@@ -19,27 +19,27 @@ use dm_peer::{Conn, Event};
 use std::alloc::Global;
 
 /// The side starts anew, as far as these links go.
-fn restart_each_link(links: &mut Vec<Link>, side: Side, indexes: &[usize])
+fn close_each_link_at_restart(links: &mut Vec<Link>, side: Side, indexes: &[usize])
     ensures { as_links links.new.items ≡ restart_each (as_side side) indexes.now (as_links links.old.items) }
 {
     for index in indexes {
-        links::restart_at(links, side, *index);
+        links::close_link_at_restart(links, side, *index);
     }
 }
 
 /// The side starts anew, as far as the link of a connection goes, if there is one.
-fn restart_on_link(links: &mut Vec<Link>, side: Side, conn: Option<Conn>)
+fn close_link_if_any_at_restart(links: &mut Vec<Link>, side: Side, conn: Option<Conn>)
     ensures { as_links links.new.items ≡ restart_each (as_side side) (numbers conn) (as_links links.old.items) }
 {
     match conn {
-        Some(conn) => links::restart_at(links, side, conn.0 as usize),
+        Some(conn) => links::close_link_at_restart(links, side, conn.0 as usize),
         None => {}
     }
 }
 
 impl Net {
     /// The link's connect comes about: an end is made for the side that didn't open it.
-    pub(crate) fn ack(
+    pub(crate) fn ack_connect(
         &mut self,
         alloc: Global,
         made: &mut MadeEnds,
@@ -60,18 +60,18 @@ impl Net {
             return Ok(Effect::Ignored);
         }
         let opener = link.opener;
-        if made.reserve(opener.other()).is_err() {
+        if made.reserve_end(opener.other()).is_err() {
             return Err(WorldFault::NoMemory);
         }
         let effect = self.tell_side(alloc, opener, Event::Ack(conn), None)?;
         if let Effect::Done = effect {
-            made.add(opener.other(), index);
+            made.add_end(opener.other(), index);
         }
         Ok(effect)
     }
 
     /// Tells the link's opener that its connect can't come about; ignored where no connect is pending.
-    pub(crate) fn nack(&mut self, alloc: Global, conn: Conn) -> Result<Effect, WorldFault>
+    pub(crate) fn nack_connect(&mut self, alloc: Global, conn: Conn) -> Result<Effect, WorldFault>
         ensures step { IfOk result (λ effect. Effects effect (happens octet_peers (as_world self.old) (Nacks conn.0))
             (as_world self.old) (as_world self.new)) }
         ensures fault { IfErr result (λ f. IsFault f (is_pending_at (slice_get (as_links self.old.links.items) conn.0))
@@ -89,7 +89,7 @@ impl Net {
 
     /// The side starts anew. That changes no links but those on which an end was made for it, and those that its peer
     /// holds.
-    pub(crate) fn restart(&mut self, made: &mut MadeEnds, side: Side)
+    pub(crate) fn restart_side(&mut self, made: &mut MadeEnds, side: Side)
         requires sound { IsSoundWorld octet_peers (as_world self.old) }
         requires named { AreNamed made.old (as_links self.old.links.items) }
         ensures anew { as_world self.new ≡ with_peer (as_side side)
@@ -97,10 +97,10 @@ impl Net {
             (restart_links (as_side side) (as_links self.old.links.items)) (as_world self.old) }
         ensures cleared { AreCleared (as_side side) made.old made.new }
     {
-        restart_each_link(&mut self.links, side, made.ends_made_for(side));
+        close_each_link_at_restart(&mut self.links, side, made.ends_made_for(side));
         let peer = self.pair.peer_at(side);
-        restart_on_link(&mut self.links, side, peer.initiated());
-        restart_on_link(&mut self.links, side, peer.accepted());
+        close_link_if_any_at_restart(&mut self.links, side, peer.initiated());
+        close_link_if_any_at_restart(&mut self.links, side, peer.accepted());
         made.clear(side);
         self.pair.reset(side);
     }

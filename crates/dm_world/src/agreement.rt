@@ -1,4 +1,4 @@
-//! What two sides are open on.
+//! What two sides are open on, and whether they agree on it.
 ghost use Rattle.std.specs.Prelude.{◌≡◌, ℕ, IfSome};
 ghost use Rattle.std.specs.Option.{IfNone};
 ghost use Rattle.dm_two_peers.specs.Machine.{Initiated, Accepted};
@@ -22,7 +22,7 @@ pub(crate) fn are_one_conn_at_most(one: Option<Conn>, other: Option<Conn>) -> bo
 
 /// Whether what A is open on and what B is open on, in opposite roles or in the same, fit: it is one link in opposite
 /// roles, or it is two, with a disconnect coming to each side on its own.
-pub(crate) fn are_agreed(
+pub(crate) fn open_conns_agree(
     opposite: bool,
     links: &[Link],
     of_a: Option<Conn>,
@@ -54,7 +54,7 @@ pub(crate) fn common_conn(one: Option<Conn>, other: Option<Conn>) -> Option<Conn
 }
 
 /// What the peer is open on as the one that opened it, and as the one that accepted it.
-fn open_in_roles(peer: &Peer) -> (Option<Conn>, Option<Conn>)
+fn open_conns_by_role(peer: &Peer) -> (Option<Conn>, Option<Conn>)
     ensures initiated { result.0 ≡ open_in_role Initiated peer.now.standing.core }
     ensures accepted { result.1 ≡ open_in_role Accepted peer.now.standing.core }
 {
@@ -69,24 +69,24 @@ fn open_in_roles(peer: &Peer) -> (Option<Conn>, Option<Conn>)
 pub(crate) fn peers_agree(a: &Peer, b: &Peer, links: &[Link]) -> bool
     ensures { result ≡ agrees a.now.standing.core b.now.standing.core (as_links links.now) }
 {
-    let (initiated_a, accepted_a) = open_in_roles(a);
-    let (initiated_b, accepted_b) = open_in_roles(b);
+    let (initiated_a, accepted_a) = open_conns_by_role(a);
+    let (initiated_b, accepted_b) = open_conns_by_role(b);
     are_one_conn_at_most(initiated_a, accepted_a)
         && are_one_conn_at_most(initiated_b, accepted_b)
-        && are_agreed(false, links, initiated_a, initiated_b)
-        && are_agreed(true, links, initiated_a, accepted_b)
-        && are_agreed(true, links, accepted_a, initiated_b)
-        && are_agreed(false, links, accepted_a, accepted_b)
+        && open_conns_agree(false, links, initiated_a, initiated_b)
+        && open_conns_agree(true, links, initiated_a, accepted_b)
+        && open_conns_agree(true, links, accepted_a, initiated_b)
+        && open_conns_agree(false, links, accepted_a, accepted_b)
 }
 
 /// The connection that both peers are open on; None where there is none.
-pub(crate) fn open_on_both(a: &Peer, b: &Peer) -> Option<Conn>
+pub(crate) fn conn_open_on_both(a: &Peer, b: &Peer) -> Option<Conn>
     ensures value { result ≡ open_on_both a.now.standing.core b.now.standing.core }
     ensures found { IfSome result (λ c. AreBothOpenOn a.now.standing.core b.now.standing.core c.0) }
     ensures none { IfNone result ((c : ℕ) → AreBothOpenOn a.now.standing.core b.now.standing.core c → ⊥) }
 {
-    let (initiated_a, accepted_a) = open_in_roles(a);
-    let (initiated_b, accepted_b) = open_in_roles(b);
+    let (initiated_a, accepted_a) = open_conns_by_role(a);
+    let (initiated_b, accepted_b) = open_conns_by_role(b);
     common_conn(initiated_a, accepted_b)
         .or(common_conn(accepted_a, initiated_b))
         .or(common_conn(initiated_a, initiated_b).or(common_conn(accepted_a, accepted_b)))

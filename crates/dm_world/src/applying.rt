@@ -1,4 +1,4 @@
-//! One happening is one step of the world.
+//! One happening is one step of the world: each goes to what does it, and a loss and a Submit are done here.
 ghost use Rattle.std.specs.Prelude.{◌≡◌, true, false, IfOk, IfErr, OnErr};
 ghost use Rattle.dm_two_peers.specs.Facts.{IsSoundWorld};
 ghost use Rattle.dm_two_peers.specs.Happens.{happens, Loses, Submits};
@@ -19,7 +19,7 @@ use std::alloc::Global;
 
 impl Net {
     /// The link is lost, but for so many first octets towards A and towards B; ignored where that changes nothing.
-    fn lose(&mut self, conn: Conn, to_a: u32, to_b: u32) -> Result<Effect, WorldFault>
+    fn lose_link(&mut self, conn: Conn, to_a: u32, to_b: u32) -> Result<Effect, WorldFault>
         ensures step { IfOk result (λ effect. Effects effect
             (happens octet_peers (as_world self.old) (Loses conn.0 to_a to_b)) (as_world self.old)
             (as_world self.new)) }
@@ -31,7 +31,7 @@ impl Net {
         if self.links[index].ignores_loss() {
             return Ok(Effect::Ignored);
         }
-        self.links[index].lose(to_a, to_b);
+        self.links[index].lose_all_but(to_a, to_b);
         Ok(Effect::Done)
     }
 
@@ -66,24 +66,24 @@ impl Net {
         ensures same { OnErr result (AreSameEnds made.old made.new) }
     {
         match happening {
-            Happening::Start(side) => Ok(self.start(alloc, *side)?),
+            Happening::Start(side) => Ok(self.start_next_link(alloc, *side)?),
             Happening::Stop(side, cause) => Ok(self.tell_side(
                 alloc,
                 *side,
                 Event::Stop(*cause),
                 None,
             )?),
-            Happening::Timeout(side) => Ok(self.time_out(alloc, *side)),
+            Happening::Timeout(side) => Ok(self.time_out_side(alloc, *side)),
             Happening::Tick(side) => Ok(self.tell_side(alloc, *side, Event::Tick, None)?),
             Happening::Restart(side) => {
-                self.restart(made, *side);
+                self.restart_side(made, *side);
                 Ok(Effect::Done)
             }
-            Happening::Ack(conn) => self.ack(alloc, made, *conn),
-            Happening::Nack(conn) => self.nack(alloc, *conn),
-            Happening::Deliver(conn, side) => self.deliver(alloc, *conn, *side),
+            Happening::Ack(conn) => self.ack_connect(alloc, made, *conn),
+            Happening::Nack(conn) => self.nack_connect(alloc, *conn),
+            Happening::Deliver(conn, side) => self.deliver_next(alloc, *conn, *side),
             Happening::Piece(conn, side, count) => self.deliver_piece(alloc, *conn, *side, *count),
-            Happening::Lose(conn, to_a, to_b) => self.lose(*conn, *to_a, *to_b),
+            Happening::Lose(conn, to_a, to_b) => self.lose_link(*conn, *to_a, *to_b),
             Happening::Submit(side, octets) => Ok(self.submit(alloc, *side, octets.as_slice())?),
         }
     }

@@ -11,7 +11,7 @@ ghost use Rattle.dm_world.specs.Seen.{as_side, as_links};
 ghost use Rattle.dm_world.specs.Views.{as_world, Effects, IsFault, front_of};
 
 use crate::direction::{Handed, Next, empty_framer};
-use crate::events_on_links::enter_event_on_link;
+use crate::events_on_links::receive_event_on_link;
 use crate::link::End;
 use crate::net::Net;
 use crate::{Effect, Side, WorldFault};
@@ -22,7 +22,12 @@ use std::alloc::Global;
 impl Net {
     /// The side hears the front message of the link: its framer's copy hands it out, and takes the framer's place once
     /// the peer has answered.
-    fn hear_message(&mut self, alloc: Global, side: Side, index: usize) -> Result<Effect, NoMemory>
+    fn hear_front_message(
+        &mut self,
+        alloc: Global,
+        side: Side,
+        index: usize,
+    ) -> Result<Effect, NoMemory>
         requires there { index < length self.old.links.items }
         ensures step { IfOk result (λ effect. (x : List ℕ) →
             front_of (as_side side) (slice_get (as_links self.old.links.items) index) ≡ Some x →
@@ -30,7 +35,7 @@ impl Net {
             (as_world self.old) (as_world self.new)) }
         ensures unchanged { OnErr result (as_world self.new ≡ as_world self.old) }
     {
-        match self.links[index].incoming(side).hand_out_front()? {
+        match self.links[index].direction_to(side).copy_front_message()? {
             Some(Handed { message, framer }) => {
                 let event = Event::Arrived(Conn(index as u64), message.as_slice());
                 self.tell_side(alloc, side, event, Some(framer))
@@ -59,10 +64,10 @@ impl Net {
         match self.links[index].own_end(side) {
             End::Shut => {
                 let event = Event::Arrived(Conn(index as u64), b"");
-                enter_event_on_link(&mut self.links, side, event, Some(empty_framer(alloc)));
+                receive_event_on_link(&mut self.links, side, event, Some(empty_framer(alloc)));
                 Ok(Effect::Done)
             }
-            End::Fresh | End::Open => self.hear_message(alloc, side, index),
+            End::Fresh | End::Open => self.hear_front_message(alloc, side, index),
         }
     }
 
@@ -85,7 +90,7 @@ impl Net {
         let event = Event::Gone(Conn(index as u64));
         match self.links[index].own_end(side) {
             End::Shut => {
-                enter_event_on_link(&mut self.links, side, event, None);
+                receive_event_on_link(&mut self.links, side, event, None);
                 Ok(Effect::Done)
             }
             End::Fresh | End::Open => self.tell_side(alloc, side, event, None),
@@ -93,7 +98,7 @@ impl Net {
     }
 
     /// What is next on the link comes to the side; ignored where nothing is.
-    pub(crate) fn deliver(
+    pub(crate) fn deliver_next(
         &mut self,
         alloc: Global,
         conn: Conn,
@@ -139,10 +144,10 @@ impl Net {
         match link.coming_next_to(side) {
             Next::Disconnect | Next::Nothing => Ok(Effect::Ignored),
             Next::Message => {
-                if link.incoming(side).octets_left() <= count as usize {
+                if link.direction_to(side).front_octets_left() <= count as usize {
                     return Ok(self.deliver_message_to(alloc, side, index)?);
                 }
-                self.links[index].deliver_part(side, count as usize)?;
+                self.links[index].deliver_octets_to(side, count as usize)?;
                 Ok(Effect::Done)
             }
         }

@@ -1,4 +1,5 @@
-//! One direction of a link: what was sent and not delivered, in order, and the disconnect behind it.
+//! One direction of a link: what was sent and not delivered, in order, with the framer that is fed it, and the
+//! disconnect behind it.
 ghost use Rattle.std.specs.Prelude.{◌≡◌, ◌+◌, ◌<◌, ◌≤◌, [], length, take, slice_get};
 ghost use Rattle.std.specs.Prelude.{IfOk, IfErr, IfSome, OnOk, OnErr, option_map};
 ghost use Rattle.dm_framer.specs.declared.fault.FrameFault.{FrameFault};
@@ -14,7 +15,7 @@ ghost use Rattle.dm_world.specs.Ways.{with_disconnect_delivered};
 ghost use Rattle.dm_wire.specs.Codes.{max_message_len};
 
 use dm_dict::NoMemory;
-use dm_framer::laws::whole_frames;
+use dm_framer::laws::frames_in_a_row_stay_themselves;
 use dm_framer::{FrameFault, Framer};
 use dm_wire::Octets;
 use dm_wire::codes::limits::MAX_MESSAGE_LEN;
@@ -82,7 +83,7 @@ pub(crate) fn empty_framer(alloc: Global) -> Framer
 
 /// The message that a framer hands out which is fed the rest of it, behind the first octets that it holds. The framer
 /// that is handed in stays as it is.
-fn framed_message(framer: &Framer, message: &[u8], taken: usize) -> Result<Handed, FrameFault>
+fn frame_rest_in_copy(framer: &Framer, message: &[u8], taken: usize) -> Result<Handed, FrameFault>
     requires frame { IsFrame max_message_len message.now }
     requires within { taken ≤ length message.now }
     requires held { framer.now ≡ holding (take taken message.now) }
@@ -90,7 +91,7 @@ fn framed_message(framer: &Framer, message: &[u8], taken: usize) -> Result<Hande
     ensures framer { IfOk result (λ handed. handed.framer ≡ holding []) }
     ensures memory { IfErr result (λ fault. fault ≡ FrameFault.NoMemory) }
 {
-    whole_frames();
+    frames_in_a_row_stay_themselves();
     let mut framer = framer.copy()?;
     framer.feed(&message[taken..])?;
     match framer.next()? {
@@ -172,7 +173,7 @@ impl Direction {
 
     /// The front message, as a framer hands it out which was fed the octets that were delivered, and then the rest;
     /// None where there is none. The direction stays as it is.
-    pub(crate) fn hand_out_front(&self) -> Result<Option<Handed>, NoMemory>
+    pub(crate) fn copy_front_message(&self) -> Result<Option<Handed>, NoMemory>
         ensures message { IfOk result (λ found.
             option_map (λ handed. handed.message.items) found ≡ slice_get self.now.direction.messages 0) }
         ensures framer { IfOk result (λ found. IfSome found (λ handed. handed.framer ≡ holding [])) }
@@ -181,7 +182,7 @@ impl Direction {
             Some(message) => message,
             None => return Ok(None),
         };
-        match framed_message(&self.framer, message, self.taken) {
+        match frame_rest_in_copy(&self.framer, message, self.taken) {
             Ok(handed) => Ok(Some(handed)),
             Err(FrameFault::NoMemory) => Err(NoMemory),
             Err(_) => unreachable!(),
@@ -190,7 +191,7 @@ impl Direction {
 
     /// Takes the front message away, with its octets that were delivered. The framer takes the place of the one that
     /// holds them.
-    pub(crate) fn take_front(&mut self, framer: Framer)
+    pub(crate) fn remove_front_message(&mut self, framer: Framer)
         requires { framer ≡ holding [] }
         ensures taken { self.new.direction ≡ without_front self.old.direction }
         ensures room { self.old.room ≤ self.new.room }
@@ -201,7 +202,7 @@ impl Direction {
     }
 
     /// How many octets of the front message are still to come; 0 where there is none.
-    pub(crate) fn octets_left(&self) -> usize
+    pub(crate) fn front_octets_left(&self) -> usize
         ensures { result ≡ octets_to_come self.now.direction.messages self.now.direction.taken }
     {
         match front_message(&self.queue) {
@@ -242,7 +243,7 @@ impl Direction {
     /// Keeps the messages that lie wholly in so many of the octets to come, and puts a disconnect behind them. A front
     /// message that goes takes its octets with it that were delivered. Where the disconnect was delivered, nothing
     /// changes.
-    pub(crate) fn lose(&mut self, kept: u32)
+    pub(crate) fn lose_all_but(&mut self, kept: u32)
         ensures { self.new.direction ≡ lost length kept self.old.direction }
     {
         match self.mark {
@@ -260,7 +261,7 @@ impl Direction {
     }
 
     /// Whether a disconnect is in, was delivered, or neither.
-    pub(crate) fn mark(&self) -> Mark
+    pub(crate) fn disconnect_mark(&self) -> Mark
         ensures { as_mark result ≡ self.now.direction.mark }
     {
         self.mark
@@ -278,7 +279,7 @@ impl Direction {
     }
 
     /// Whether nothing is under way: no message, and no disconnect.
-    pub(crate) fn is_still(&self) -> bool
+    pub(crate) fn is_quiet(&self) -> bool
         ensures { result ≡ is_still self.now.direction }
     {
         match self.mark {

@@ -1,5 +1,5 @@
-//! An event that a side's peer took is followed on the links: it reaches the one that it names, and what the peer asks
-//! for is done.
+//! An event that a side's peer took is followed on the links: it reaches the one that it names, what the peer asks for
+//! is done, and a fresh end is settled.
 ghost use Rattle.std.specs.Prelude.{◌≡◌, ℕ, ◌+◌, IsTrue, false, [], ◌∷◌};
 ghost use Rattle.dm_peer.specs.Events.{event_told};
 ghost use Rattle.dm_two_peers.specs.Peers.{deed_in, sends_at};
@@ -32,7 +32,7 @@ pub(crate) fn named_link(event: Event<'_>) -> Option<Conn>
 
 /// The event reaches the side's end of the link that it names, if there is one. Where a message arrived the framer
 /// takes the place of the one that holds octets of it.
-pub(crate) fn enter_event_on_link(
+pub(crate) fn receive_event_on_link(
     links: &mut Vec<Link>,
     side: Side,
     event: Event<'_>,
@@ -49,7 +49,7 @@ pub(crate) fn enter_event_on_link(
         Some(conn) => {
             let index = conn.0 as usize;
             if index < links.len() {
-                links[index].enter_event(side, event, framer);
+                links[index].receive_event(side, event, framer);
             }
         }
         None => {}
@@ -57,7 +57,7 @@ pub(crate) fn enter_event_on_link(
 }
 
 /// Does one action of the side's peer on the links.
-fn perform_action(links: &mut Vec<Link>, side: Side, action: Action)
+fn perform_one_action(links: &mut Vec<Link>, side: Side, action: Action)
     requires room { (c : ℕ) → IsTrue (sends_at c (deed_in (as_action action) ∷ [])) →
         HasRoom (as_side side) links.old.items 1 c }
     requires frames { SendFrames (as_action action ∷ []) }
@@ -81,12 +81,13 @@ pub(crate) fn perform_actions(links: &mut Vec<Link>, side: Side, mut actions: Ac
         ≡ perform (as_side side) (as_actions actions.items) (as_links links.old.items) }
 {
     while let Some(action) = actions.pop_at(0) {
-        perform_action(links, side, action);
+        perform_one_action(links, side, action);
     }
 }
 
-/// The event reaches its link, and the actions of the side's peer, which stands as it does behind the event, are done.
-pub(crate) fn follow_event(
+/// The event reaches its link, and the actions of the side's peer, which stands as it does behind the event, are done;
+/// where something arrived on a fresh end, that is open then, or shut.
+pub(crate) fn follow_event_on_links(
     links: &mut Vec<Link>,
     side: Side,
     peer: &Peer,
@@ -101,9 +102,9 @@ pub(crate) fn follow_event(
         (as_event (event_told event.entry)) actions.items peer.now
         (as_links links.old.items) }
 {
-    enter_event_on_link(links, side, event, framer);
+    receive_event_on_link(links, side, event, framer);
     perform_actions(links, side, actions);
     if let Event::Arrived(conn, _) = event {
-        links::settle_link(links, side, conn.0 as usize, holds(peer, conn));
+        links::settle_fresh_end_on_link(links, side, conn.0 as usize, holds(peer, conn));
     }
 }

@@ -140,7 +140,7 @@ impl Link {
     }
 
     /// The direction towards the side.
-    pub(crate) fn incoming(&self, side: Side) -> &Direction
+    pub(crate) fn direction_to(&self, side: Side) -> &Direction
         ensures { result.now.direction ≡ (own_view (as_side side) (as_link self.now)).incoming }
     {
         if self.is_opener(side) {
@@ -151,7 +151,7 @@ impl Link {
     }
 
     /// So many octets of the front message come to the side, and not its last. Where memory is wanted, nothing changes.
-    pub(crate) fn deliver_part(&mut self, side: Side, count: usize) -> Result<(), NoMemory>
+    pub(crate) fn deliver_octets_to(&mut self, side: Side, count: usize) -> Result<(), NoMemory>
         requires { count < octets_to_come_to (as_side side) (as_link self.old) }
         ensures taken { OnOk result (as_link self.new ≡ by_side (as_side side) (take_part count) (as_link self.old)) }
         ensures unchanged { OnErr result (as_link self.new ≡ as_link self.old) }
@@ -166,18 +166,18 @@ impl Link {
     /// An event that names the link reaches the side's end of it. Where a message arrived the framer takes the place of
     /// the one that holds octets of it.
     #[tactic(auto, using(crate::proofs::Hearing::not_entered, crate::proofs::Hearing::not_started_on))]
-    pub(crate) fn enter_event(&mut self, side: Side, event: Event<'_>, framer: Option<Framer>)
+    pub(crate) fn receive_event(&mut self, side: Side, event: Event<'_>, framer: Option<Framer>)
         requires { FramerFits (event_told event) framer }
         ensures entered { as_link self.new
             ≡ by_side (as_side side) (entered (concern_in (event_told event.entry))) (as_link self.old) }
         ensures room { out_room (as_side side) self.old ≤ out_room (as_side side) self.new }
     {
         match event {
-            Event::Ack(_) => self.enter_ack(side),
+            Event::Ack(_) => self.receive_ack(side),
             Event::Nack(_) => self.phase = Phase::Cancelled,
-            Event::Gone(_) => self.enter_gone(side),
+            Event::Gone(_) => self.receive_disconnect(side),
             Event::Arrived(_, _) => match framer {
-                Some(framer) => self.enter_message(side, framer),
+                Some(framer) => self.receive_front_message(side, framer),
                 None => unreachable!(),
             },
             _ => {}
@@ -185,7 +185,7 @@ impl Link {
     }
 
     /// The connect came about: both ends are made, and that of the side, the opener, is open.
-    fn enter_ack(&mut self, side: Side)
+    fn receive_ack(&mut self, side: Side)
         ensures entered { as_link self.new ≡ by_side (as_side side) (entered MakesLink) (as_link self.old) }
         ensures room { out_room (as_side side) self.old ≤ out_room (as_side side) self.new }
     {
@@ -200,20 +200,20 @@ impl Link {
     }
 
     /// The front message comes to the side. The framer takes the place of the one that holds octets of it.
-    fn enter_message(&mut self, side: Side, framer: Framer)
+    fn receive_front_message(&mut self, side: Side, framer: Framer)
         requires { framer ≡ holding [] }
         ensures entered { as_link self.new ≡ by_side (as_side side) (entered HeardOnLink) (as_link self.old) }
         ensures room { out_room (as_side side) self.old ≤ out_room (as_side side) self.new }
     {
         if self.is_opener(side) {
-            self.to_opener.take_front(framer);
+            self.to_opener.remove_front_message(framer);
         } else {
-            self.to_other.take_front(framer);
+            self.to_other.remove_front_message(framer);
         }
     }
 
     /// The disconnect comes to the side: its end is shut. Where that was fresh, a disconnect goes back.
-    fn enter_gone(&mut self, side: Side)
+    fn receive_disconnect(&mut self, side: Side)
         ensures entered { as_link self.new ≡ by_side (as_side side) (entered EndsLink) (as_link self.old) }
         ensures room { out_room (as_side side) self.old ≤ out_room (as_side side) self.new }
     {
@@ -234,7 +234,7 @@ impl Link {
     }
 
     /// A fresh end that was heard on is open where its peer holds the link, else shut.
-    pub(crate) fn settle_end(&mut self, side: Side, holds: bool)
+    pub(crate) fn settle_fresh_end(&mut self, side: Side, holds: bool)
         ensures { as_link self.new ≡ by_side (as_side side) (settled_view HeardOnLink holds) (as_link self.old) }
     {
         let settled = if holds { End::Open } else { End::Shut };
@@ -247,23 +247,24 @@ impl Link {
     }
 
     /// The link is lost: so many first octets of those to come towards A and towards B stay.
-    pub(crate) fn lose(&mut self, to_a: u32, to_b: u32)
+    pub(crate) fn lose_all_but(&mut self, to_a: u32, to_b: u32)
         ensures { as_link self.new ≡ lost_link length to_a to_b (as_link self.old) }
     {
         match self.opener {
             Side::A => {
-                self.to_opener.lose(to_a);
-                self.to_other.lose(to_b);
+                self.to_opener.lose_all_but(to_a);
+                self.to_other.lose_all_but(to_b);
             }
             Side::B => {
-                self.to_opener.lose(to_b);
-                self.to_other.lose(to_a);
+                self.to_opener.lose_all_but(to_b);
+                self.to_other.lose_all_but(to_a);
             }
         }
     }
 
-    /// The side starts anew: its end is shut, and a connect that it asked for is cancelled.
-    pub(crate) fn restart(&mut self, side: Side)
+    /// The side starts anew: it closes the link, and cancels a connect that it asked for; one that the other side asked
+    /// for stays pending.
+    pub(crate) fn close_at_restart(&mut self, side: Side)
         ensures { as_link self.new ≡ restart_link (as_side side) (as_link self.old) }
     {
         let mine = self.is_opener(side);
@@ -279,7 +280,7 @@ impl Link {
     {
         match self.phase {
             Phase::Pending => false,
-            _ => self.to_opener.is_still() && self.to_other.is_still(),
+            _ => self.to_opener.is_quiet() && self.to_other.is_quiet(),
         }
     }
 
@@ -288,7 +289,7 @@ impl Link {
         ensures { result ≡ next_to (as_side side) (as_link self.now) }
     {
         match self.phase {
-            Phase::Up => self.incoming(side).coming_next(),
+            Phase::Up => self.direction_to(side).coming_next(),
             _ => Next::Nothing,
         }
     }

@@ -19,7 +19,7 @@ use dm_wire::Octets;
 use std::alloc::AllocError;
 
 /// Makes room for so many messages that the side sends on the link, if there is one.
-pub(crate) fn reserve(
+pub(crate) fn reserve_on_link(
     links: &mut Vec<Link>,
     side: Side,
     index: usize,
@@ -64,21 +64,21 @@ pub(crate) fn close_link(links: &mut Vec<Link>, side: Side, index: usize)
 }
 
 /// A fresh end of the side that was heard on is open where its peer holds the link, else shut.
-pub(crate) fn settle_link(links: &mut Vec<Link>, side: Side, index: usize, holds: bool)
+pub(crate) fn settle_fresh_end_on_link(links: &mut Vec<Link>, side: Side, index: usize, holds: bool)
     ensures { as_links links.new.items
         ≡ change_at index (by_side (as_side side) (settled_view HeardOnLink holds)) (as_links links.old.items) }
 {
     if index < links.len() {
-        links[index].settle_end(side, holds);
+        links[index].settle_fresh_end(side, holds);
     }
 }
 
 /// The side starts anew, as far as the link goes.
-pub(crate) fn restart_at(links: &mut Vec<Link>, side: Side, index: usize)
+pub(crate) fn close_link_at_restart(links: &mut Vec<Link>, side: Side, index: usize)
     ensures { as_links links.new.items ≡ change_at index (restart_link (as_side side)) (as_links links.old.items) }
 {
     if index < links.len() {
-        links[index].restart(side);
+        links[index].close_at_restart(side);
     }
 }
 
@@ -99,7 +99,7 @@ pub(crate) fn is_disconnect_coming(links: &[Link], side: Side, index: usize) -> 
     ensures { result ≡ is_coming_at (as_side side) (slice_get (as_links links.now) index) }
 {
     match links.get(index) {
-        Some(link) => match link.incoming(side).mark() {
+        Some(link) => match link.direction_to(side).disconnect_mark() {
             Mark::Coming => true,
             _ => false,
         },

@@ -36,7 +36,7 @@ impl MadeEnds {
     }
 
     /// Makes room for one more end of the side.
-    pub(crate) fn reserve(&mut self, side: Side) -> Result<(), AllocError>
+    pub(crate) fn reserve_end(&mut self, side: Side) -> Result<(), AllocError>
         ensures same { AreSameEnds self.old self.new }
         ensures room { OnOk result (HasRoomForEnd (as_side side) self.new) }
     {
@@ -47,7 +47,7 @@ impl MadeEnds {
     }
 
     /// Notes that an end was made for the side on the link of this number.
-    pub(crate) fn add(&mut self, side: Side, index: usize)
+    pub(crate) fn add_end(&mut self, side: Side, index: usize)
         requires { HasRoomForEnd (as_side side) self.old }
         ensures added { ends_of (as_side side) self.new ≡ ends_of (as_side side) self.old ++ index ∷ [] }
         ensures other { ends_of (flip (as_side side)) self.new ≡ ends_of (flip (as_side side)) self.old }

@@ -13,15 +13,15 @@ ghost use Rattle.dm_world.specs.Seen.{as_side, as_links};
 ghost use Rattle.dm_world.specs.Telling.{is_start, FramerFits};
 ghost use Rattle.dm_world.specs.Views.{as_world, Effects};
 
-use crate::events_on_links::{follow_event, named_link};
+use crate::events_on_links::{follow_event_on_links, named_link};
 use crate::link::Link;
 use crate::pair::Pair;
-use crate::rooms::make_room;
+use crate::rooms::make_room_for_sends;
 use crate::{Effect, Side, WorldFault};
 use dm_dict::NoMemory;
 use dm_framer::Framer;
-use dm_machine::laws::{each_opening_has_its_message, each_step_keeps_shape};
-use dm_octet_peers::laws::{octets_are_a_machine, octets_are_frames};
+use dm_machine::laws::{ceas_open_and_what_is_given_up_is_closed, each_step_keeps_shape};
+use dm_octet_peers::laws::{every_message_sent_is_a_frame, octet_peers_move_as_the_machine};
 use dm_peer::{Actions, Conn, Event};
 use std::alloc::Global;
 
@@ -48,7 +48,7 @@ impl Net {
     }
 
     /// What the side's peer asks for at the event, with room for what it sends. None where it refuses the event.
-    fn ask_with_room(
+    fn make_room_and_ask(
         &mut self,
         alloc: Global,
         side: Side,
@@ -64,14 +64,14 @@ impl Net {
             (event_told event.entry) ≡ true) }
         ensures unchanged { OnErr result (self.new.pair ≡ self.old.pair) }
     {
-        octets_are_a_machine();
-        octets_are_frames();
-        each_opening_has_its_message();
+        octet_peers_move_as_the_machine();
+        every_message_sent_is_a_frame();
+        ceas_open_and_what_is_given_up_is_closed();
         each_step_keeps_shape();
-        if !self.pair.takes(side, event) {
+        if !self.pair.side_takes_event(side, event) {
             return Ok(None);
         }
-        make_room(
+        make_room_for_sends(
             &mut self.links,
             side,
             self.pair.peer_at(side),
@@ -99,10 +99,10 @@ impl Net {
             (event_told event.entry) ≡ true) }
         ensures unchanged { OnErr result (as_world self.new ≡ as_world self.old) }
     {
-        match self.ask_with_room(alloc, side, event) {
+        match self.make_room_and_ask(alloc, side, event) {
             Ok(Some(actions)) => {
                 let peer = self.pair.peer_at(side);
-                follow_event(&mut self.links, side, peer, event, framer, actions);
+                follow_event_on_links(&mut self.links, side, peer, event, framer, actions);
                 Ok(Effect::Done)
             }
             Ok(None) => Ok(Effect::Ignored),

@@ -1,4 +1,4 @@
-//! The two peers of a world.
+//! The two peers of a world, and what one of them holds, which events it takes, and what it asks for.
 ghost use Rattle.std.specs.Prelude.{◌≡◌, false, None, IsTrue, IfOk, OnErr};
 ghost use Rattle.dm_machine.specs.Node.{is_shaped};
 ghost use Rattle.dm_two_peers.specs.Machine.{is_tie_held, tie_of};
@@ -46,7 +46,7 @@ pub(crate) fn holds(peer: &Peer, conn: Conn) -> bool
 
 /// Whether a peer takes such an event in its state: a Start in Closed, a Stop or a Submit where it is open, all else in
 /// each.
-fn peer_takes(peer: &Peer, event: Event<'_>) -> bool
+fn peer_takes_event(peer: &Peer, event: Event<'_>) -> bool
     ensures { result ≡ is_in_place peer.now.standing.core.state (event_told event.entry) }
 {
     match event {
@@ -74,7 +74,7 @@ impl Pair {
 
     /// Whether the side's peer takes such an event in its state. Where it doesn't, it refuses the event.
     #[tactic(auto, using(crate::proofs::OffPlace::off_place))]
-    pub(crate) fn takes(&self, side: Side, event: Event<'_>) -> bool
+    pub(crate) fn side_takes_event(&self, side: Side, event: Event<'_>) -> bool
         ensures state { result ≡ is_in_place (peer_of (as_side side) self.now).standing.core.state
             (event_told event.entry) }
         ensures refused { result ≡ false → IsAnswerOf (as_side side) (event_told event.entry) None self.now self.now }
@@ -82,7 +82,7 @@ impl Pair {
         refusals_go_by_rule();
         let peer = self.peer_at(side);
         let _shaped = peer.state();
-        peer_takes(peer, event)
+        peer_takes_event(peer, event)
     }
 
     /// What the side's peer asks for at the event. None where it refuses the event.

@@ -12,13 +12,13 @@ use dm_peer::{Conn, Peer};
 const MAX_SENDS: usize = 4;
 
 /// Makes room for what a peer sends at one event on the link of a connection, if there is one.
-fn make_room_on(links: &mut Vec<Link>, side: Side, conn: Option<Conn>) -> Result<(), NoMemory>
+fn make_room_on_link(links: &mut Vec<Link>, side: Side, conn: Option<Conn>) -> Result<(), NoMemory>
     ensures same { as_links links.new.items ≡ as_links links.old.items }
     ensures room { OnOk result ((c : ℕ) → IsTrue (is_conn conn c) → HasRoom (as_side side) links.new.items 4 c) }
     ensures kept { (n c : ℕ) → HasRoom (as_side side) links.old.items n c → HasRoom (as_side side) links.new.items n c }
 {
     match conn {
-        Some(conn) => match links::reserve(links, side, conn.0 as usize, MAX_SENDS) {
+        Some(conn) => match links::reserve_on_link(links, side, conn.0 as usize, MAX_SENDS) {
             Ok(()) => Ok(()),
             Err(_) => Err(NoMemory),
         },
@@ -27,7 +27,7 @@ fn make_room_on(links: &mut Vec<Link>, side: Side, conn: Option<Conn>) -> Result
 }
 
 /// Makes room for what the side's peer sends at one event, on the links that it holds, and on the one that is named.
-pub(crate) fn make_room(
+pub(crate) fn make_room_for_sends(
     links: &mut Vec<Link>,
     side: Side,
     peer: &Peer,
@@ -36,7 +36,7 @@ pub(crate) fn make_room(
     ensures same { as_links links.new.items ≡ as_links links.old.items }
     ensures room { OnOk result (HasRoomToSend (as_side side) links.new.items peer.now.standing.core named) }
 {
-    make_room_on(links, side, peer.initiated())?;
-    make_room_on(links, side, peer.accepted())?;
-    make_room_on(links, side, named)
+    make_room_on_link(links, side, peer.initiated())?;
+    make_room_on_link(links, side, peer.accepted())?;
+    make_room_on_link(links, side, named)
 }

@@ -21,12 +21,13 @@ ghost use Rattle.dm_world.specs.Views.{IsEnd};
 use crate::laws::every_world_is_kept;
 use crate::{Happening, World, WorldFault};
 use dm_octet_peers::laws::{
-    each_octet_quiet_run_is_closed_or_open, each_octet_run_can_fall_quiet, each_octet_run_delivers,
-    each_octet_run_falls_quiet, each_octet_run_hands_up_what_came, each_octet_run_settles,
-    each_octet_world_can_open, octet_quiet_is_joined,
+    each_clean_octet_run_can_fall_quiet, each_clean_octet_run_falls_quiet,
+    each_clean_octet_run_keeps_its_course, each_octet_quiet_run_is_closed_or_open,
+    each_octet_run_delivers_in_order, each_octet_run_hands_up_only_arrivals,
+    each_octet_world_can_restart_and_open, quiet_octet_peers_are_closed_or_joined,
 };
 use dm_peer::Peer;
-use dm_two_peers::laws::{quiet_is_shared, sound_is_promised};
+use dm_two_peers::laws::{peers_of_sound_worlds_agree, quiet_peers_hold_the_same};
 use dm_wire::Octets;
 use std::alloc::Global;
 
@@ -96,25 +97,29 @@ impl World {
         ensures whole { result.1 ≡ None → result.0 ≡ length list.now }
         ensures ended { IfSome result.1 (λ f. IsEnd f (slice_get list.now result.0) self.new) }
     {
-        sound_is_promised::<Peer, Octets>();
-        quiet_is_shared::<Peer, Octets>();
-        each_octet_run_delivers();
-        each_octet_run_hands_up_what_came();
-        each_octet_run_settles();
-        each_octet_run_falls_quiet();
-        each_octet_run_can_fall_quiet();
-        octet_quiet_is_joined();
+        peers_of_sound_worlds_agree::<Peer, Octets>();
+        quiet_peers_hold_the_same::<Peer, Octets>();
+        each_octet_run_delivers_in_order();
+        each_octet_run_hands_up_only_arrivals();
+        each_clean_octet_run_keeps_its_course();
+        each_clean_octet_run_falls_quiet();
+        each_clean_octet_run_can_fall_quiet();
+        quiet_octet_peers_are_closed_or_joined();
         each_octet_quiet_run_is_closed_or_open();
-        each_octet_world_can_open();
+        each_octet_world_can_restart_and_open();
         every_world_is_kept(self);
-        let ended = self.apply_each(alloc, list);
+        let ended = self.apply_up_to_fault(alloc, list);
         every_world_is_kept(self);
         ended
     }
 
     /// Applies happenings, one after the other, up to the first that isn't applied. It answers how many were, and why
     /// the next one wasn't; None where all were.
-    fn apply_each(&mut self, alloc: Global, list: &[Happening]) -> (usize, Option<WorldFault>)
+    fn apply_up_to_fault(
+        &mut self,
+        alloc: Global,
+        list: &[Happening],
+    ) -> (usize, Option<WorldFault>)
         ensures ran { RanTo self.old (take result.0 list.now) self.new }
         ensures whole { result.1 ≡ None → result.0 ≡ length list.now }
         ensures ended { IfSome result.1 (λ f. IsEnd f (slice_get list.now result.0) self.new) }

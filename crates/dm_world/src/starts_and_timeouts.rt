@@ -1,4 +1,4 @@
-//! What brings no message: a Start and a Timeout of a side.
+//! A Start and a Timeout of a side, at which nothing is sent.
 ghost use Rattle.std.specs.Prelude.{◌≡◌, true, IfOk, OnErr};
 ghost use Rattle.dm_two_peers.specs.Happens.{happens, Starts, TimesOut};
 ghost use Rattle.dm_octet_peers.specs.Octets.{octet_peers};
@@ -12,24 +12,24 @@ use crate::link::Link;
 use crate::net::Net;
 use crate::{Effect, Side};
 use dm_dict::NoMemory;
-use dm_octet_peers::laws::octets_are_frames;
-use dm_peer::laws::silent_takes_none;
+use dm_octet_peers::laws::every_message_sent_is_a_frame;
+use dm_peer::laws::silent_events_take_no_memory;
 use dm_peer::{Conn, Event};
 use std::alloc::Global;
 
 impl Net {
     /// The side is asked to open a connection: the next link.
-    pub(crate) fn start(&mut self, alloc: Global, side: Side) -> Result<Effect, NoMemory>
+    pub(crate) fn start_next_link(&mut self, alloc: Global, side: Side) -> Result<Effect, NoMemory>
         ensures step { IfOk result (λ effect. Effects effect
             (happens octet_peers (as_world self.old) (Starts (as_side side))) (as_world self.old) (as_world self.new)) }
         ensures want { OnErr result (is_closed_state (peer_of (as_side side) self.old.pair).standing.core.state
             ≡ true) }
         ensures unchanged { OnErr result (as_world self.new ≡ as_world self.old) }
     {
-        silent_takes_none();
-        octets_are_frames();
+        silent_events_take_no_memory();
+        every_message_sent_is_a_frame();
         let conn = Conn(self.links.len() as u64);
-        if !self.pair.takes(side, Event::Start(conn)) {
+        if !self.pair.side_takes_event(side, Event::Start(conn)) {
             return Ok(Effect::Ignored);
         }
         if self.links.reserve(1).is_err() {
@@ -46,12 +46,12 @@ impl Net {
     }
 
     /// The side's state has had its time.
-    pub(crate) fn time_out(&mut self, alloc: Global, side: Side) -> Effect
+    pub(crate) fn time_out_side(&mut self, alloc: Global, side: Side) -> Effect
         ensures { Effects result (happens octet_peers (as_world self.old) (TimesOut (as_side side)))
             (as_world self.old) (as_world self.new) }
     {
-        silent_takes_none();
-        octets_are_frames();
+        silent_events_take_no_memory();
+        every_message_sent_is_a_frame();
         match self.pair.ask_side(alloc, side, Event::Timeout) {
             Ok(None) => Effect::Ignored,
             Ok(Some(actions)) => {

@@ -4,16 +4,20 @@ ghost use Rattle.dm_two_peers.specs.Laws.{world_of};
 ghost use Rattle.dm_octet_peers.specs.Laws.{fresh_peer};
 ghost use Rattle.dm_world.specs.New.{new_fault};
 
-use crate::agreement::{open_on_both, peers_agree};
+use crate::agreement::{conn_open_on_both, peers_agree};
 use crate::made_ends::MadeEnds;
 use crate::net::Net;
 use crate::pair::Pair;
 use crate::{Effect, Happening, NewFault, Side, WorldFault, links};
 use dm_base::common_nodes;
-use dm_octet_peers::laws::{each_happening_keeps_peers, octets_are_a_machine, octets_are_sized};
+use dm_octet_peers::laws::{
+    each_happening_keeps_peers_paired, octet_peers_move_as_the_machine,
+    octet_peers_send_no_empty_message,
+};
 use dm_peer::{Config, Conn, Peer, is_same_host};
 use dm_two_peers::laws::{
-    acks_make_ends, closed_is_sound, each_happening_keeps_sound, each_run_is_cut,
+    closed_peers_make_a_sound_world, each_happening_keeps_worlds_sound,
+    no_front_message_is_fully_delivered, only_acks_make_ends_fresh,
 };
 use dm_wire::Octets;
 use std::alloc::Global;
@@ -67,15 +71,15 @@ fn new_world_fault(a: &Config, b: &Config) -> Option<NewFault>
 }
 
 /// Lets a configuration go.
-fn discard(_config: Config) {}
+fn drop_config(_config: Config) {}
 
 /// Two closed peers of these configurations, A's the first, without links.
-fn world_of(alloc: Global, a: Config, b: Config) -> World
+fn world_of_new_peers(alloc: Global, a: Config, b: Config) -> World
     requires { new_fault a b ≡ None }
     ensures { result ≡ world_of (fresh_peer a) (fresh_peer b) }
 {
-    closed_is_sound::<Peer, Octets>();
-    each_happening_keeps_peers();
+    closed_peers_make_a_sound_world::<Peer, Octets>();
+    each_happening_keeps_peers_paired();
     World {
         net: Net {
             pair: Pair {
@@ -118,12 +122,12 @@ impl World {
             (happens octet_peers self.old (as_happening happening.now))) }
         ensures unchanged { OnErr result (self.new ≡ self.old) }
     {
-        octets_are_a_machine();
-        each_happening_keeps_sound::<Peer, Octets>();
-        each_happening_keeps_peers();
-        each_run_is_cut::<Peer, Octets>();
-        octets_are_sized();
-        acks_make_ends::<Peer, Octets>();
+        octet_peers_move_as_the_machine();
+        each_happening_keeps_worlds_sound::<Peer, Octets>();
+        each_happening_keeps_peers_paired();
+        no_front_message_is_fully_delivered::<Peer, Octets>();
+        octet_peers_send_no_empty_message();
+        only_acks_make_ends_fresh::<Peer, Octets>();
         self.net.apply(alloc, &mut self.made, happening)
     }
 
@@ -162,7 +166,7 @@ impl World {
         ensures none { IfNone result ((c : ℕ) →
             AreBothOpenOn (octet_peers.node_of self.now.a) (octet_peers.node_of self.now.b) c → ⊥) }
     {
-        open_on_both(&self.net.pair.a, &self.net.pair.b)
+        conn_open_on_both(&self.net.pair.a, &self.net.pair.b)
     }
 
     /// Two closed peers of these configurations, A's the first, without links.
@@ -177,11 +181,11 @@ impl World {
     {
         match new_world_fault(&a, &b) {
             Some(fault) => {
-                discard(a);
-                discard(b);
+                drop_config(a);
+                drop_config(b);
                 Err(fault)
             }
-            None => Ok(world_of(alloc, a, b)),
+            None => Ok(world_of_new_peers(alloc, a, b)),
         }
     }
 }

@@ -3,12 +3,12 @@
 //! which is to have no words, and makes the status.
 #![tactic(auto)]
 
-use dm_io::{exit_code, program_words};
+use dm_io::{command_line_words, exit_code};
 use dm_live::run_program;
 use std::process::ExitCode;
 
 fn main(rt: HostRuntime) -> ExitCode {
-    let words = program_words(&rt);
+    let words = command_line_words(&rt);
     let ended = run_program(
         rt.alloc(),
         words,

@@ -4,12 +4,12 @@
 //! command line and makes the status.
 #![tactic(auto)]
 
-use dm_io::{exit_code, program_words};
+use dm_io::{command_line_words, exit_code};
 use dm_tool::run_program;
 use std::process::ExitCode;
 
 fn main(rt: HostRuntime) -> ExitCode {
-    let words = program_words(&rt);
+    let words = command_line_words(&rt);
     let ended = run_program(
         rt.alloc(),
         words,

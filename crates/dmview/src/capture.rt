@@ -1,4 +1,4 @@
-//! Captures of packets: whether a file is one, and what of it is looked at.
+//! Captures of packets: whether a file is one, and what of it is looked at, by the options of the command line.
 use anyhow::{Context, Result};
 use clap::ArgMatches;
 use dm_capture::CaptureReader;
@@ -16,7 +16,7 @@ const LIMITS: Limits = Limits {
 };
 
 /// Whether a file with these octets at its front is a capture.
-pub fn begins_capture(alloc: Global, front: &[u8]) -> Result<bool, AllocError> {
+pub fn is_capture_front(alloc: Global, front: &[u8]) -> Result<bool, AllocError> {
     if front.len() < FRONT_LEN {
         return Ok(false);
     }
@@ -51,7 +51,7 @@ pub fn has_capture_option(matches: &ArgMatches<'_>) -> bool {
 }
 
 /// The ports that are named, or else that of Diameter.
-fn ports_of(alloc: Global, matches: &ArgMatches<'_>) -> Result<Vec<u16>> {
+fn asked_or_default_ports(alloc: Global, matches: &ArgMatches<'_>) -> Result<Vec<u16>> {
     let mut ports = Vec::new(alloc);
     if let Some(named) = matches.get_many::<u16>("port") {
         for port in named {
@@ -82,7 +82,7 @@ fn option_text(alloc: Global, matches: &ArgMatches<'_>, name: &str) -> Result<Op
 /// What of captures the words ask for.
 pub fn capture_options_of(alloc: Global, matches: &ArgMatches<'_>) -> Result<Asked> {
     Ok(Asked {
-        ports: ports_of(alloc, matches)?,
+        ports: asked_or_default_ports(alloc, matches)?,
         host: option_text(alloc, matches, "peer")?,
         session: option_text(alloc, matches, "session")?,
         command: option_text(alloc, matches, "command")?,
@@ -93,7 +93,7 @@ pub fn capture_options_of(alloc: Global, matches: &ArgMatches<'_>) -> Result<Ask
 }
 
 /// The octets of a text, where there is one.
-fn octets_of(text: &Option<String>) -> Option<&[u8]> {
+fn octets_of_optional_text(text: &Option<String>) -> Option<&[u8]> {
     match text {
         Some(text) => Some(text.as_bytes()),
         None => None,
@@ -112,7 +112,7 @@ fn wanted_command(word: &Option<String>) -> Option<Wanted<'_>> {
 }
 
 /// What of a capture is looked at, and how its times are said.
-pub fn looks_of(asked: &Asked) -> Looks<'_> {
+pub fn looks_from_options(asked: &Asked) -> Looks<'_> {
     Looks {
         choice: if asked.is_any {
             Choice::Any
@@ -126,8 +126,8 @@ pub fn looks_of(asked: &Asked) -> Looks<'_> {
             Times::Utc
         },
         filter: Filter {
-            host: octets_of(&asked.host),
-            session: octets_of(&asked.session),
+            host: octets_of_optional_text(&asked.host),
+            session: octets_of_optional_text(&asked.session),
             command: wanted_command(&asked.command),
             bad: asked.is_bad,
         },

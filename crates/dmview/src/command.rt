@@ -1,4 +1,4 @@
-//! The command line: `show` and `check`, dictionaries and files.
+//! The command line: `show` and `check`, with their options and files.
 use clap::{Arg, ArgAction, Command, value_parser};
 use std::alloc::{AllocError, Global};
 

@@ -7,7 +7,7 @@ ghost use Rattle.dm_tables.specs.Base.{base_definitions};
 use anyhow::{Context, Error, Result};
 use dm_dict::{DictFault, Dictionary};
 use dm_text::{Lines, Words};
-use dm_view_lines::read_file;
+use dm_view_lines::push_file_as_lines;
 use std::alloc::Global;
 use std::fs::File;
 use std::{fs, io, str};
@@ -39,7 +39,7 @@ pub fn dictionary_of_files(
     }
     let mut text = Vec::new(rt.alloc());
     let mut ends = Vec::new(rt.alloc());
-    let done = read_texts(names, files, &mut text, &mut ends);
+    let done = push_texts_and_ends(names, files, &mut text, &mut ends);
     done?;
     match dictionary_over_base(rt.alloc(), text.as_slice()) {
         Ok(dictionary) => Ok(dictionary),
@@ -49,7 +49,7 @@ pub fn dictionary_of_files(
 
 /// Appends the texts of the files as one text of version 2, whose version stands before the first line, and where each
 /// ends.
-fn read_texts(
+fn push_texts_and_ends(
     names: &[&str],
     files: Vec<File>,
     text: &mut Vec<u8>,
@@ -59,7 +59,7 @@ fn read_texts(
     let mut at: usize = 0;
     for file in files {
         let name = names.get(at).copied().unwrap_or("?");
-        read_file(file, text).context(format_args!("dmview: {name}"))?;
+        push_file_as_lines(file, text).context(format_args!("dmview: {name}"))?;
         ends.extend_from_slice(&[text.len()])?;
         at = at.saturating_add(1);
     }
@@ -67,7 +67,7 @@ fn read_texts(
 }
 
 /// The line of a fault, counted through all files, and what is wrong with it.
-fn line_and_words(fault: DictFault) -> (usize, &'static str)
+fn fault_line_and_words(fault: DictFault) -> (usize, &'static str)
     ensures syntax { (line : ℕ) → fault ≡ faults_of.Syntax line → result.0 ≡ line }
     ensures range { (line : ℕ) → fault ≡ faults_of.Range line → result.0 ≡ line }
     ensures duplicate { (line : ℕ) → fault ≡ faults_of.Duplicate line → result.0 ≡ line }
@@ -93,7 +93,7 @@ fn dictionary_error(
     ends: &[usize],
     fault: DictFault,
 ) -> Error {
-    let (line, words) = line_and_words(fault);
+    let (line, words) = fault_line_and_words(fault);
     let Some((name, number)) = file_and_line(names, text, ends, line) else {
         return Error::msg(format_args!("dmview: dictionary: {words}"));
     };
@@ -147,7 +147,7 @@ fn unknown_name_error(
         None => ".",
     };
     for word in Words::new(line) {
-        if is_name(word) && !defines(text, word) {
+        if is_capitalised_name(word) && !text_defines_name(text, word) {
             if let Ok(Some(error)) = error_with_defining_file(rt, name, number, folder, word) {
                 return error;
             }
@@ -167,10 +167,10 @@ fn error_with_defining_file(
     for entry in fs::read_dir(rt, folder)? {
         let entry = entry?;
         let path = entry.path();
-        if is_defined_in(rt, path.as_str(), word) {
+        if file_defines_name(rt, path.as_str(), word) {
             return Ok(Some(Error::msg(format_args!(
                 "dmview: {name}: line {number}: unknown name {}, which {} defines",
-                name_text(word),
+                name_or_question_mark(word),
                 path.as_str()
             ))));
         }
@@ -179,24 +179,24 @@ fn error_with_defining_file(
 }
 
 /// A name as text; `?` where it isn't UTF-8.
-fn name_text(word: &[u8]) -> &str {
+fn name_or_question_mark(word: &[u8]) -> &str {
     str::from_utf8(word).unwrap_or("?")
 }
 
 /// Whether the file at this path can be read and defines the name.
-fn is_defined_in(rt: &HostRuntime, path: &str, word: &[u8]) -> bool {
+fn file_defines_name(rt: &HostRuntime, path: &str, word: &[u8]) -> bool {
     let mut text = Vec::new(rt.alloc());
     let Ok(file) = File::open(rt, path) else {
         return false;
     };
-    match read_file(file, &mut text) {
-        Ok(()) => defines(text.as_slice(), word),
+    match push_file_as_lines(file, &mut text) {
+        Ok(()) => text_defines_name(text.as_slice(), word),
         Err(_) => false,
     }
 }
 
 /// Whether a word has letters, digits and `-` alone, and begins with a capital letter.
-fn is_name(word: &[u8]) -> bool {
+fn is_capitalised_name(word: &[u8]) -> bool {
     match word {
         [first, rest @ ..] => {
             first.is_ascii_uppercase()
@@ -207,7 +207,7 @@ fn is_name(word: &[u8]) -> bool {
 }
 
 /// Whether a line of the text begins with `@` or `<` and the name.
-fn defines(text: &[u8], word: &[u8]) -> bool {
+fn text_defines_name(text: &[u8], word: &[u8]) -> bool {
     let text = text.strip_prefix(VERSION).unwrap_or(text);
     Lines::new(text).any(|line| {
         let mut words = Words::new(line);

@@ -1,5 +1,5 @@
 //! The files of a run.
-use crate::capture::{FRONT_LEN, begins_capture};
+use crate::capture::{FRONT_LEN, is_capture_front};
 use anyhow::{Context, Result};
 use dm_view_lines::Inputs;
 use std::alloc::{AllocError, Global};
@@ -18,7 +18,7 @@ fn open_file(rt: &HostRuntime, name: &str) -> Result<File> {
 }
 
 /// Opens the texts of dictionaries, so that one that isn't there is told before anything is read.
-pub fn open_dictionary_texts(rt: &HostRuntime, names: &[&str]) -> Result<Vec<File>> {
+pub fn open_dictionary_files(rt: &HostRuntime, names: &[&str]) -> Result<Vec<File>> {
     let mut files = Vec::new(rt.alloc());
     for name in names {
         let file = open_file(rt, name)?;
@@ -31,7 +31,7 @@ pub fn open_dictionary_texts(rt: &HostRuntime, names: &[&str]) -> Result<Vec<Fil
 }
 
 /// Opens the files that are said, one after the other.
-pub fn open_files(rt: &HostRuntime, names: &[&str]) -> Result<VecDeque<File>> {
+pub fn open_input_files(rt: &HostRuntime, names: &[&str]) -> Result<VecDeque<File>> {
     let mut files = VecDeque::new(rt.alloc());
     for name in names {
         let file = open_file(rt, name)?;
@@ -67,8 +67,8 @@ pub fn joined_files(
     Ok(inputs)
 }
 
-/// Whether the first file begins as a capture, by octets at its front, which are read and kept.
-pub fn first_is_capture(
+/// Whether the first file begins as a capture, by octets at its front, which are read and appended to `front`.
+pub fn read_front_and_detect_capture(
     rt: &HostRuntime,
     files: &mut VecDeque<File>,
     front: &mut VecDeque<u8>,
@@ -86,5 +86,5 @@ pub fn first_is_capture(
             .map_err(AllocError::from)
             .context("dmview")?;
     }
-    begins_capture(rt.alloc(), octets.as_slice()).context("dmview")
+    is_capture_front(rt.alloc(), octets.as_slice()).context("dmview")
 }

@@ -1,7 +1,8 @@
-//! The program `dmview`: what Diameter messages say, in names and values, and all that is wrong with them.
+//! The program `dmview`: its runs over lines, a stream or captures, what they are asked to say, and their status.
 //!
-//! What it prints for lines and streams is dm_view_lines', for captures dm_trace_view's; here are the command line, the
-//! files, the dictionary of a run and the status.
+//! It tells what Diameter messages say, in names and values, and all that is wrong with them. What it prints for lines
+//! and streams is dm_view_lines', for captures dm_trace_view's; here are the command line, the files, the dictionary of
+//! a run and the status.
 #![tactic(auto)]
 
 ghost use Rattle.std.specs.Prelude.{◌≡◌, true, false, if◌then◌else◌};
@@ -13,13 +14,14 @@ mod dictionary;
 mod input;
 mod output;
 
-use crate::capture::{capture_options_of, has_capture_option, looks_of};
+use crate::capture::{capture_options_of, has_capture_option, looks_from_options};
 use crate::command::command_line;
 use crate::dictionary::dictionary_of_files;
 use crate::input::{
-    file_with_front, first_is_capture, joined_files, open_dictionary_texts, open_files,
+    file_with_front, joined_files, open_dictionary_files, open_input_files,
+    read_front_and_detect_capture,
 };
-use crate::output::write_said;
+use crate::output::say_lines_or_stream;
 use anyhow::{Context, Error, Result};
 use clap::{ArgMatches, error};
 use dm_dict::Dictionary;
@@ -63,7 +65,7 @@ fn say_hexadecimal_inputs<R: Read + Drop>(
 ) -> Result<u8> {
     let mut output = rt.stdout();
     let mut reader = BufReader::with_capacity(rt.alloc(), READ_AT_ONCE, inputs).context("dmview")?;
-    let said = write_said(
+    let said = say_lines_or_stream(
         rt.alloc(),
         dictionary,
         style,
@@ -71,7 +73,7 @@ fn say_hexadecimal_inputs<R: Read + Drop>(
         &mut reader,
         &mut output,
     );
-    let at = reader.get_ref().at();
+    let at = reader.get_ref().ended_reader_count();
     drop(reader);
     match said {
         Ok(good) => Ok(status_of(good)),
@@ -80,7 +82,7 @@ fn say_hexadecimal_inputs<R: Read + Drop>(
 }
 
 /// Writes what is said of standard input, and tells the status.
-fn say_standard_input(
+fn say_hexadecimal_standard_input(
     rt: &HostRuntime,
     dictionary: &Dictionary,
     style: Style,
@@ -162,7 +164,7 @@ fn say_input(
     names: &[&str],
 ) -> Result<u8> {
     match (kind, names.is_empty()) {
-        (InputKind::Lines { is_stream }, true) => say_standard_input(
+        (InputKind::Lines { is_stream }, true) => say_hexadecimal_standard_input(
             rt, dictionary, style, is_stream,
         ),
         (InputKind::Lines { is_stream }, false) => {
@@ -192,7 +194,7 @@ fn are_captures(
     if matches.get_flag("hex") || matches.get_flag("stream") {
         return Ok(false);
     }
-    first_is_capture(rt, files, front, names)
+    read_front_and_detect_capture(rt, files, front, names)
 }
 
 /// Whether the output is coloured: always, never, or else where standard output is a terminal.
@@ -230,9 +232,9 @@ fn run_subcommand(rt: &HostRuntime, is_check: bool, matches: &ArgMatches<'_>) ->
         coloured: is_coloured(rt, matches.get_str("color")),
     };
     let texts_names = matches.get_strs("dict").unwrap_or(&[]);
-    let texts = open_dictionary_texts(rt, texts_names)?;
+    let texts = open_dictionary_files(rt, texts_names)?;
     let names = matches.get_strs("file").unwrap_or(&[]);
-    let mut files = open_files(rt, names)?;
+    let mut files = open_input_files(rt, names)?;
     let asked = capture_options_of(rt.alloc(), matches)?;
     let mut front = VecDeque::new(rt.alloc());
     let is_capture = are_captures(rt, matches, &mut files, &mut front, names)?;
@@ -241,7 +243,7 @@ fn run_subcommand(rt: &HostRuntime, is_check: bool, matches: &ArgMatches<'_>) ->
     }
     let dictionary = dictionary_of_files(rt, texts_names, texts)?;
     let kind = if is_capture {
-        InputKind::Captures(looks_of(&asked))
+        InputKind::Captures(looks_from_options(&asked))
     } else {
         InputKind::Lines {
             is_stream: matches.get_flag("stream"),
@@ -272,7 +274,7 @@ fn status_of(good: bool) -> u8
 }
 
 /// Runs what the words of the command line ask for, and tells the status.
-fn run_words(rt: &HostRuntime) -> Result<u8> {
+fn run_command_line(rt: &HostRuntime) -> Result<u8> {
     let words: Vec<String> = env::args(rt)
         .context("dmview")?
         .collect(rt.alloc())
@@ -290,7 +292,7 @@ fn run_words(rt: &HostRuntime) -> Result<u8> {
 }
 
 fn main(rt: HostRuntime) -> ExitCode {
-    match run_words(&rt) {
+    match run_command_line(&rt) {
         Ok(status) => ExitCode::from(status),
         Err(error) => {
             let _ = writeln!(rt.stderr(), "{error:#}");

@@ -11,7 +11,7 @@ use std::io::{BufRead, Write};
 
 /// Writes what is said of an input as it is read: of each of its lines, or of the stream that they are. True where
 /// nothing is bad.
-pub fn write_said<R: BufRead, W: Write>(
+pub fn say_lines_or_stream<R: BufRead, W: Write>(
     alloc: Global,
     dictionary: &Dictionary,
     style: Style,

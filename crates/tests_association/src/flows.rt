@@ -41,7 +41,7 @@ pub(crate) fn push_message(
     text: &mut Vec<u8>,
     chunk: DataChunk<'_>,
 ) -> Result<(), AllocError> {
-    match flow.take(chunk)? {
+    match flow.take_chunk(chunk)? {
         Some(message) => {
             let put = text.extend_from_slice(&message);
             drop(message);
@@ -53,8 +53,8 @@ pub(crate) fn push_message(
 
 fn take(flow: &mut SctpFlow, text: &mut Vec<u8>, step: &Step) -> Result<(), AllocError> {
     match step {
-        Begin(tsn) => flow.begin(*tsn),
-        End => flow.end(),
+        Begin(tsn) => flow.begin_association(*tsn),
+        End => flow.end_association(),
         Data(tsn, bits, stream, protocol, octets) => {
             let chunk = chunk_of(*tsn, bits, *stream, *protocol, octets.as_bytes());
             push_message(flow, text, chunk)?;
@@ -71,7 +71,12 @@ fn told(alloc: Global, steps: &[Step]) -> Result<Vec<u8>, AllocError> {
     for step in steps {
         take(&mut flow, &mut text, step)?;
     }
-    let counts = format!(in alloc; "{} {} {}", flow.passed(), flow.secured(), flow.waiting())?;
+    let counts = format!(in alloc;
+        "{} {} {}",
+        flow.octets_passed_over(),
+        flow.octets_secured(),
+        flow.octets_waiting()
+    )?;
     text.extend_from_slice(counts.as_bytes())?;
     drop(flow);
     drop(counts);

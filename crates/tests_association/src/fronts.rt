@@ -1,5 +1,5 @@
 //! Chunks that begin and end associations, as hexadecimal digits.
-use dm_association::{Init, ends_association, init_of};
+use dm_association::{Init, ends_association, read_init_or_ack};
 use std::alloc::Global;
 use std::process::Abort;
 
@@ -56,7 +56,7 @@ fn told(alloc: Global, digits: &str) -> Option<(Option<Init>, bool)> {
     let Ok(octets) = hex::decode(alloc, digits) else {
         return None;
     };
-    let told = (init_of(&octets), ends_association(&octets));
+    let told = (read_init_or_ack(&octets), ends_association(&octets));
     drop(octets);
     Some(told)
 }

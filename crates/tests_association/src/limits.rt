@@ -53,7 +53,7 @@ fn told_of_large(alloc: Global, count: u32, last: usize) -> Result<(usize, u64),
     let mut text = Vec::new(alloc);
     let mut octets = Vec::new(alloc);
     octets.resize(65_536, 7)?;
-    flow.begin(0);
+    flow.begin_association(0);
     for tsn in 0..count {
         push_message(&mut flow, &mut text, chunk_of(tsn, "B", 0, 46, &octets))?;
     }
@@ -64,7 +64,7 @@ fn told_of_large(alloc: Global, count: u32, last: usize) -> Result<(usize, u64),
             chunk_of(count, "B", 0, 46, &octets[..last]),
         )?;
     }
-    let told = (flow.waiting(), flow.passed());
+    let told = (flow.octets_waiting(), flow.octets_passed_over());
     drop(octets);
     drop(text);
     drop(flow);

@@ -34,7 +34,7 @@ fn put_messages(
     ends: Ends,
 ) -> Result<(), AllocError> {
     for turn in 0..6 {
-        if let Some(message) = associations.next(ends, turn < 3)? {
+        if let Some(message) = associations.next_message_of(ends, turn < 3)? {
             text.push(if turn < 3 { '>' } else { '<' })?;
             let put = put_message(text, &message);
             drop(message);
@@ -49,7 +49,11 @@ fn put_held(
     associations: &Associations,
     text: &mut String,
 ) -> Result<(), AllocError> {
-    let line = format!(in alloc; "/{}/{}", associations.len(), associations.held())?;
+    let line = format!(in alloc;
+        "/{}/{}",
+        associations.len(),
+        associations.total_octets_held()
+    )?;
     text.push_str(line.as_str())
 }
 
@@ -62,7 +66,7 @@ fn put_row(
 ) -> Result<(), AllocError> {
     let (from, to, tag, chunks, _) = *row;
     let octets = octets_of(alloc, chunks)?;
-    let taken = associations.take(choice, packet_of(from, to, tag, &octets));
+    let taken = associations.take_if_held_or_wanted(choice, packet_of(from, to, tag, &octets));
     drop(octets);
     match taken? {
         Some(ends) => {
@@ -79,8 +83,11 @@ fn put_let_go(
     text: &mut String,
     gone: LetGo<Association>,
 ) -> Result<(), AllocError> {
-    let (passed, secured) = (gone.connection.passed(), gone.connection.secured());
-    let held = gone.connection.held();
+    let (passed, secured) = (
+        gone.connection.octets_passed_over_both_ways(),
+        gone.connection.octets_secured_both_ways(),
+    );
+    let held = gone.connection.octets_held_both_ways();
     let ends = gone.ends;
     drop(gone);
     put_ends(alloc, text, ends)?;
@@ -93,7 +100,7 @@ fn put_all_let_go(
     text: &mut String,
 ) -> Result<(), AllocError> {
     for _turn in 0..5 {
-        if let Some(gone) = associations.let_go() {
+        if let Some(gone) = associations.let_idlest_go() {
             put_let_go(alloc, text, gone)?;
         }
     }

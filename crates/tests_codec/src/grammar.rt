@@ -2,7 +2,8 @@
 
 use dm_grammar::{
     AvpItem, CommandItem, EntryItem, Form, GroupItem, Item, ItemFault, ValueItem, VendorItem,
-    VendorWord, items_law, read_items, syntax_law, words_law,
+    VendorWord, items_are_what_steps_take, read_items, tokens_are_items_or_have_a_fault,
+    words_beyond_digits_are_names,
 };
 use std::alloc::{AllocError, Global};
 
@@ -65,8 +66,8 @@ const EDGES: [(&str, Result<usize, usize>); 35] = [
 
 #[test]
 fn syntax_edges(rt: HostRuntime) {
-    syntax_law();
-    items_law();
+    items_are_what_steps_take();
+    tokens_are_items_or_have_a_fault();
     for (text, want) in &EDGES {
         assert!(rt;
             outcome(rt.alloc(), text.as_bytes()) == *want,
@@ -147,7 +148,7 @@ const SECOND_EDGES: [(&str, Result<usize, usize>); 52] = [
 
 #[test]
 fn second_version_edges(rt: HostRuntime) {
-    words_law();
+    words_beyond_digits_are_names();
     for (text, want) in &SECOND_EDGES {
         assert!(rt;
             outcome(rt.alloc(), text.as_bytes()) == *want,

@@ -71,12 +71,12 @@ fn is_kept_text(alloc: Global, shown: &str) -> Result<bool, AllocError> {
 fn copies_and_texts_are_the_same(rt: HostRuntime) -> Result<(), Fail> {
     assert!(rt; is_kept_text(rt.alloc(), "hello") == Ok(true));
     assert!(rt; NoMemory::from(AllocError) == NoMemory);
-    laws::one_value();
-    laws::one_type();
-    laws::no_value_refused();
-    laws::least_length();
-    laws::flaw_decides();
-    laws::value_or_fault();
+    laws::octets_have_one_value_at_most();
+    laws::each_value_is_of_one_type();
+    laws::octets_of_values_have_no_fault();
+    laws::no_value_is_below_the_least_length();
+    laws::flaw_is_fault_or_none();
+    laws::octets_have_a_value_or_a_fault();
     let other = Address::Other(3, octets(rt.alloc(), b"x")?);
     assert!(rt; is_copied_address(&other));
     Ok(())

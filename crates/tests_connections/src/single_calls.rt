@@ -16,14 +16,14 @@ fn two_added(alloc: Global, connections: &mut Connections) -> Result<(), AllocEr
     let stream = stream_of(alloc, 10)?;
     let syn = segment_of(&(2, 3868, "S", 99, 0, 0, ""), &stream);
     let behind = segment_of(&(2, 3868, "", 140, 40, 60, ""), &stream);
-    connections.add(ends_of(1, 3868))?;
-    connections.add(ends_of(2, 3868))?;
-    connections.hear(ends_of(2, 3868), syn)?;
-    connections.hear(ends_of(2, 3868), behind)
+    connections.add_unless_held(ends_of(1, 3868))?;
+    connections.add_unless_held(ends_of(2, 3868))?;
+    connections.take_if_held(ends_of(2, 3868), syn)?;
+    connections.take_if_held(ends_of(2, 3868), behind)
 }
 
 fn past(connections: &Connections, most: usize, octets: u64) -> bool {
-    connections.is_past(Limits {
+    connections.exceeds(Limits {
         connections: most,
         octets,
     })
@@ -48,11 +48,15 @@ fn limits_of_captures(rt: HostRuntime) {
 fn added_once_in_either_order(rt: HostRuntime) {
     let mut connections = none_held(&rt);
     two_added(rt.alloc(), &mut connections).expect(&rt, "memory");
-    connections.add(ends_of(3868, 2)).expect(&rt, "memory");
-    connections.add(ends_of(2, 3868)).expect(&rt, "memory");
-    let (len, held) = (connections.len(), connections.held());
-    let found = connections.find(end(3868), end(2)) == Some(ends_of(2, 3868))
-        && connections.find(end(1), end(2)).is_none();
+    connections
+        .add_unless_held(ends_of(3868, 2))
+        .expect(&rt, "memory");
+    connections
+        .add_unless_held(ends_of(2, 3868))
+        .expect(&rt, "memory");
+    let (len, held) = (connections.len(), connections.total_octets_held());
+    let found = connections.find_ends(end(3868), end(2)) == Some(ends_of(2, 3868))
+        && connections.find_ends(end(1), end(2)).is_none();
     drop(connections);
     assert!(rt; len == 2 && held == 60 && found);
 }
@@ -61,10 +65,12 @@ fn added_once_in_either_order(rt: HostRuntime) {
 fn asked_for_where_none_is_held(rt: HostRuntime) {
     let mut connections = none_held(&rt);
     two_added(rt.alloc(), &mut connections).expect(&rt, "memory");
-    let none = connections.passed(ends_of(3868, 2)).is_none();
-    let passed = connections.passed(ends_of(2, 3868)) == Some(0);
+    let none = connections
+        .octets_passed_over_of(ends_of(3868, 2))
+        .is_none();
+    let passed = connections.octets_passed_over_of(ends_of(2, 3868)) == Some(0);
     let message = connections
-        .next(ends_of(3, 3868), true)
+        .next_message_of(ends_of(3, 3868), true)
         .expect(&rt, "memory");
     let is_none = message.is_none();
     drop(message);

@@ -49,7 +49,7 @@ fn put_messages(
     ends: Ends,
 ) -> Result<(), AllocError> {
     for turn in 0..6 {
-        if let Some(message) = connections.next(ends, turn < 3)? {
+        if let Some(message) = connections.next_message_of(ends, turn < 3)? {
             text.push(if turn < 3 { '>' } else { '<' })?;
             text.push(letter_of(&message))?;
             drop(message);
@@ -59,7 +59,11 @@ fn put_messages(
 }
 
 fn put_held(alloc: Global, connections: &Connections, text: &mut String) -> Result<(), AllocError> {
-    let line = format!(in alloc; "/{}/{}", connections.len(), connections.held())?;
+    let line = format!(in alloc;
+        "/{}/{}",
+        connections.len(),
+        connections.total_octets_held()
+    )?;
     text.push_str(line.as_str())
 }
 
@@ -72,7 +76,7 @@ fn put_row(
     text: &mut String,
 ) -> Result<(), AllocError> {
     text.clear();
-    match connections.take(choice, segment_of(row, stream))? {
+    match connections.take_if_held_or_wanted(choice, segment_of(row, stream))? {
         Some(ends) => {
             put_ends(alloc, text, ends)?;
             put_messages(connections, text, ends)?;
@@ -84,8 +88,8 @@ fn put_row(
 
 fn put_let_go(alloc: Global, text: &mut String, gone: LetGo) -> Result<(), AllocError> {
     put_ends(alloc, text, gone.ends)?;
-    let passed = gone.connection.passed();
-    let pending = gone.connection.pending();
+    let passed = gone.connection.octets_passed_over_both_ways();
+    let pending = gone.connection.octets_pending_both_ways();
     drop(gone);
     text.push_str(format!(in alloc; " {passed}+{pending} ")?.as_str())
 }
@@ -96,7 +100,7 @@ fn put_all_let_go(
     text: &mut String,
 ) -> Result<(), AllocError> {
     for _turn in 0..5 {
-        if let Some(gone) = connections.let_go() {
+        if let Some(gone) = connections.let_idlest_go() {
             put_let_go(alloc, text, gone)?;
         }
     }

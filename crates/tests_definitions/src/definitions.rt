@@ -148,12 +148,12 @@ fn finds_places(tables: &Tables) -> Option<bool>
     requires { IsDictionary tables.now }
 {
     let name = b"Vendor-Id".as_slice();
-    let place = tables.place_by_name(name)?;
+    let place = tables.avp_place_by_name(name)?;
     let avp = tables.avps.as_slice().get(place)?;
-    let cer = tables.command_by_head(257, true, false)?;
+    let cer = tables.command_by_code(257, true, false)?;
     let entry = cer.rule.as_slice().get(3)?;
     Some(
-        tables.place_by_code(266, None)? == place
+        tables.avp_place_by_code(266, None)? == place
             && avp.name.as_slice() == name
             && entry.name.as_slice() == name
             && entry.form == Form::Required,

@@ -37,9 +37,9 @@ fn segment_of<'a>(row: &Row, stream: &'a [u8]) -> Segment<'a> {
 fn put_messages(connection: &mut Connection, text: &mut String) -> Result<(), AllocError> {
     for turn in 0..40 {
         let next = if turn < 20 {
-            connection.next_forth()?
+            connection.next_message_from_first()?
         } else {
-            connection.next_back()?
+            connection.next_message_from_second()?
         };
         if let Some(message) = next {
             text.push(if turn < 20 { '>' } else { '<' })?;
@@ -55,10 +55,10 @@ fn told(alloc: Global, rows: &[Row]) -> Result<String, AllocError> {
     let mut text = String::new(alloc);
     let stream = stream_of(alloc, 10)?;
     for row in rows {
-        connection.take(segment_of(row, &stream))?;
+        connection.take_segment(segment_of(row, &stream))?;
         put_messages(&mut connection, &mut text)?;
     }
-    text.push_str(format!(in alloc; "{}", connection.passed())?.as_str())?;
+    text.push_str(format!(in alloc; "{}", connection.octets_passed_over_both_ways())?.as_str())?;
     drop(connection);
     drop(stream);
     Ok(text)

@@ -19,7 +19,7 @@ use Step::{Fin, Octets, Reset, Syn};
 /// Appends a letter for each message that is handed out.
 fn put_messages(flow: &mut Flow, text: &mut String) -> Result<(), AllocError> {
     for _ in 0..100 {
-        match flow.next()? {
+        match flow.next_message()? {
             Some(message) => {
                 text.push(letter_of(&message))?;
                 drop(message);
@@ -32,12 +32,12 @@ fn put_messages(flow: &mut Flow, text: &mut String) -> Result<(), AllocError> {
 
 fn take(flow: &mut Flow, stream: &[u8], step: &Step) -> Result<(), AllocError> {
     match step {
-        Syn(number) => flow.begin(*number),
-        Fin(number) => flow.finish(*number),
-        Reset => flow.reset(),
+        Syn(number) => flow.begin_at_syn(*number),
+        Fin(number) => flow.end_at_fin(*number),
+        Reset => flow.end_at_rst(),
         Octets(number, from, to) => {
             if from <= to && *to <= stream.len() {
-                flow.take(*number, &stream[*from..*to])?;
+                flow.take_octets(*number, &stream[*from..*to])?;
             }
         }
     }
@@ -54,7 +54,7 @@ fn told(alloc: Global, steps: &[Step]) -> Result<String, AllocError> {
         put_messages(&mut flow, &mut text)?;
         text.push('|')?;
     }
-    text.push_str(format!(in alloc; "{}", flow.passed())?.as_str())?;
+    text.push_str(format!(in alloc; "{}", flow.octets_passed_over())?.as_str())?;
     drop(flow);
     drop(stream);
     Ok(text)

@@ -1,6 +1,6 @@
 //! What is told of a packet: its ends and tag, and a line for each DATA chunk; or what it is instead.
 use crate::told::{letter, put_endpoint, put_passed};
-use dm_flows::{DataChunk, DataChunks, SctpPacket, sctp_of};
+use dm_flows::{DataChunk, DataChunks, SctpPacket, sctp_packet_of};
 use std::alloc::{AllocError, Global};
 use std::process::Abort;
 
@@ -34,7 +34,7 @@ fn told_sctp(alloc: Global, link: u16, digits: &str) -> Option<String> {
         return None;
     };
     let mut text = String::new(alloc);
-    let put = match sctp_of(link, &octets) {
+    let put = match sctp_packet_of(link, &octets) {
         Ok(packet) => put_packet(alloc, &mut text, packet),
         Err(passed) => put_passed(alloc, &mut text, passed),
     };

@@ -17,8 +17,8 @@ fn handed(alloc: Global, next: u32, arrivals: &[(u32, &str)]) -> Option<Vec<u8>>
 
 /// Appends what is handed out behind these octets. False where memory is wanted.
 fn push_handed(window: &mut Window, output: &mut Vec<u8>, sequence: u32, octets: &str) -> bool {
-    let took = match window.take(sequence, octets.as_bytes()) {
-        Ok(()) => window.hand_out(output).is_ok(),
+    let took = match window.take_octets(sequence, octets.as_bytes()) {
+        Ok(()) => window.hand_out_octets(output).is_ok(),
         Err(WindowFault::TooFar) => output.push(b'!').is_ok(),
         Err(WindowFault::NoMemory) => false,
     };

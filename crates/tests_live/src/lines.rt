@@ -1,7 +1,7 @@
 //! Orders in lines to a peer alone, answered over its node.
 
 use crate::single::alone;
-use dm_live::{Form, answer_order, read_order};
+use dm_live::{Form, answer_order_or_piece, read_order_line};
 use dm_node::{Acquaintance, Answer, Node};
 use std::process::Abort;
 
@@ -15,13 +15,15 @@ const ANSWERS: &str =
 
 /// Answers the line, where it tells an order.
 fn answer(rt: &(impl Abort + AllocGlobal), node: &mut Node, line: &str, text: &mut String) {
-    if let Some(order) = read_order(rt.alloc(), Form::Alone, line.as_bytes()).expect(rt, "memory") {
+    if let Some(order) = read_order_line(rt.alloc(), Form::Alone, line.as_bytes()).expect(
+        rt, "memory",
+    ) {
         let mut lent = Answer::new();
-        let done = answer_order(
+        let done = answer_order_or_piece(
             rt.alloc(),
             Form::Alone,
             node,
-            order.asked(),
+            order.as_order_or_piece(),
             &mut lent,
             text,
         );

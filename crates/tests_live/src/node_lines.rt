@@ -1,7 +1,7 @@
 //! Orders to a node in lines, answered over it.
 
 use crate::nodes::three;
-use dm_live::{Form, answer_order, read_order};
+use dm_live::{Form, answer_order_or_piece, read_order_line};
 use dm_node::{Answer, Node};
 use std::process::Abort;
 
@@ -16,15 +16,15 @@ const ANSWERS: &str =
 
 /// Answers the line, where it tells an order to a node.
 fn answer(rt: &(impl Abort + AllocGlobal), node: &mut Node, line: &str, text: &mut String) {
-    if let Some(order) = read_order(rt.alloc(), Form::Several, line.as_bytes()).expect(
+    if let Some(order) = read_order_line(rt.alloc(), Form::Several, line.as_bytes()).expect(
         rt, "memory",
     ) {
         let mut lent = Answer::new();
-        let done = answer_order(
+        let done = answer_order_or_piece(
             rt.alloc(),
             Form::Several,
             node,
-            order.asked(),
+            order.as_order_or_piece(),
             &mut lent,
             text,
         );

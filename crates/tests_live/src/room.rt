@@ -1,6 +1,6 @@
 //! The room that an answer takes: that of the same text appended a piece after the other, so at most twice its octets.
 use crate::single::{CER_OF_B, alone};
-use dm_live::{Form, answer_order, read_order};
+use dm_live::{Form, answer_order_or_piece, read_order_line};
 use dm_node::{Answer, Node};
 use dm_text::Hexadecimal;
 use std::process::Abort;
@@ -22,13 +22,15 @@ fn request(rt: &(impl Abort + AllocGlobal), size: u32) -> Vec<u8> {
 
 /// Appends the answer to the line, which tells an order.
 fn answer(rt: &(impl Abort + AllocGlobal), node: &mut Node, line: &str, text: &mut String) {
-    if let Some(order) = read_order(rt.alloc(), Form::Alone, line.as_bytes()).expect(rt, "memory") {
+    if let Some(order) = read_order_line(rt.alloc(), Form::Alone, line.as_bytes()).expect(
+        rt, "memory",
+    ) {
         let mut lent = Answer::new();
-        let done = answer_order(
+        let done = answer_order_or_piece(
             rt.alloc(),
             Form::Alone,
             node,
-            order.asked(),
+            order.as_order_or_piece(),
             &mut lent,
             text,
         );

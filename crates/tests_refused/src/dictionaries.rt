@@ -2,7 +2,7 @@
 use crate::each::each_made;
 use crate::rows::*;
 use dm_dict::{DictFault, Dictionary, NoMemory, Verdict};
-use dm_refusal::{Making, refuse, refuse_each};
+use dm_refusal::{Making, refuse_each_request, refuse_nth_request};
 use dm_wire::Message;
 use std::alloc::Global;
 use std::process::Abort;
@@ -28,11 +28,11 @@ impl Making for ReadBase<'_> {
         Dictionary::base(alloc)
     }
 
-    fn is_memory(&self, _fault: &NoMemory) -> bool {
+    fn is_want_of_memory(&self, _fault: &NoMemory) -> bool {
         true
     }
 
-    fn is_row(&self, alloc: Global, made: &Dictionary) -> bool {
+    fn is_as_expected(&self, alloc: Global, made: &Dictionary) -> bool {
         prints(alloc, made, self.0)
     }
 }
@@ -50,11 +50,11 @@ impl Making for Read<'_> {
         Dictionary::read(alloc, self.0, self.1)
     }
 
-    fn is_memory(&self, fault: &DictFault) -> bool {
+    fn is_want_of_memory(&self, fault: &DictFault) -> bool {
         *fault == DictFault::NoMemory
     }
 
-    fn is_row(&self, alloc: Global, made: &Dictionary) -> bool {
+    fn is_as_expected(&self, alloc: Global, made: &Dictionary) -> bool {
         prints(alloc, made, self.2)
     }
 }
@@ -72,11 +72,11 @@ impl Making for Print<'_> {
         self.0.print(alloc)
     }
 
-    fn is_memory(&self, _fault: &NoMemory) -> bool {
+    fn is_want_of_memory(&self, _fault: &NoMemory) -> bool {
         true
     }
 
-    fn is_row(&self, _alloc: Global, made: &Vec<u8>) -> bool {
+    fn is_as_expected(&self, _alloc: Global, made: &Vec<u8>) -> bool {
         made.as_slice() == self.1
     }
 }
@@ -99,11 +99,11 @@ impl Making for Faulty<'_> {
         }
     }
 
-    fn is_memory(&self, _fault: &NoMemory) -> bool {
+    fn is_want_of_memory(&self, _fault: &NoMemory) -> bool {
         true
     }
 
-    fn is_row(&self, _alloc: Global, made: &Option<DictFault>) -> bool {
+    fn is_as_expected(&self, _alloc: Global, made: &Option<DictFault>) -> bool {
         *made == Some(self.2)
     }
 }
@@ -193,11 +193,11 @@ impl Making for CountFaults<'_> {
         Ok(faults.len())
     }
 
-    fn is_memory(&self, _fault: &NoMemory) -> bool {
+    fn is_want_of_memory(&self, _fault: &NoMemory) -> bool {
         true
     }
 
-    fn is_row(&self, _alloc: Global, made: &usize) -> bool {
+    fn is_as_expected(&self, _alloc: Global, made: &usize) -> bool {
         *made == self.2
     }
 }
@@ -234,11 +234,11 @@ impl Making for Check<'_> {
         self.0.check(alloc, self.1)
     }
 
-    fn is_memory(&self, _fault: &NoMemory) -> bool {
+    fn is_want_of_memory(&self, _fault: &NoMemory) -> bool {
         true
     }
 
-    fn is_row(&self, alloc: Global, made: &Verdict) -> bool {
+    fn is_as_expected(&self, alloc: Global, made: &Verdict) -> bool {
         match format!(in alloc; "{made}") {
             Ok(told) => told.as_str() == self.2,
             Err(_) => false,
@@ -348,9 +348,9 @@ fn long_rule_checked(rt: HostRuntime) {
     let digits = "010000208000012c000000000000000100000001000139ab4000000c00000007";
     let octets = octets(&rt, digits);
     let message = Message::decode(rt.alloc(), octets.as_slice()).expect(&rt, "a message");
-    refuse_each(rt.alloc());
+    refuse_each_request(rt.alloc());
     let checked = dictionary.check(rt.alloc(), &message);
-    refuse(rt.alloc(), 0);
+    refuse_nth_request(rt.alloc(), 0);
     assert!(&rt; checked == Ok(Verdict::Good));
     drop(message);
     drop(dictionary);

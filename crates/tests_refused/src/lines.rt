@@ -1,7 +1,10 @@
 //! Lines that are said as they are read.
 use crate::each::each;
 use dm_dict::Dictionary;
-use dm_refusal::{End, Subject, answered, refuse, repeated, was_refused};
+use dm_refusal::{
+    End, Subject, end_of_answered_call, end_of_repeated_call, refuse_nth_request,
+    was_request_refused,
+};
 use dm_view_lines::{RunFault, Task, say_lines, say_stream};
 use std::alloc::Global;
 use std::cell::Cell;
@@ -38,13 +41,13 @@ fn said(
     let Ok(mut reader) = BufReader::with_capacity(alloc, row.size, row.input.as_bytes()) else {
         return (Err(RunFault::Memory), false);
     };
-    refuse(alloc, nth);
+    refuse_nth_request(alloc, nth);
     let said = if is_stream {
         say_stream(alloc, dictionary, task, coloured, &mut reader, text)
     } else {
         say_lines(alloc, dictionary, task, coloured, &mut reader, text)
     };
-    let refused = was_refused(alloc);
+    let refused = was_request_refused(alloc);
     drop(reader);
     (said, refused)
 }
@@ -82,14 +85,14 @@ fn end_of(alloc: Global, row: &Row<'_>, nth: u32) -> End {
     drop(text);
     match first {
         Ok(_) if spared => End::Again,
-        Ok(_) => answered(refused, whole),
-        Err(RunFault::Memory) => repeated(refused, front),
+        Ok(_) => end_of_answered_call(refused, whole),
+        Err(RunFault::Memory) => end_of_repeated_call(refused, front),
         Err(_) => End::Fault,
     }
 }
 
 impl<R: AllocGlobal> Subject<R> for Row<'_> {
-    fn end(&self, rt: &R, nth: u32) -> End {
+    fn end_when_refused(&self, rt: &R, nth: u32) -> End {
         end_of(rt.alloc(), self, nth)
     }
 }

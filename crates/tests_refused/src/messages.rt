@@ -24,11 +24,11 @@ impl Making for Classify<'_> {
         classify(alloc, self.0, self.1)
     }
 
-    fn is_memory(&self, fault: &BaseFault) -> bool {
+    fn is_want_of_memory(&self, fault: &BaseFault) -> bool {
         *fault == BaseFault::NoMemory
     }
 
-    fn is_row(&self, _alloc: Global, made: &Kind) -> bool {
+    fn is_as_expected(&self, _alloc: Global, made: &Kind) -> bool {
         match made {
             Kind::Cer(caps) => caps.applications.as_slice() == [4u32, 16777251].as_slice(),
             _ => false,
@@ -67,11 +67,11 @@ impl Making for ListIds<'_> {
         }
     }
 
-    fn is_memory(&self, _fault: &NoMemory) -> bool {
+    fn is_want_of_memory(&self, _fault: &NoMemory) -> bool {
         true
     }
 
-    fn is_row(&self, _alloc: Global, made: &IdList) -> bool {
+    fn is_as_expected(&self, _alloc: Global, made: &IdList) -> bool {
         made.as_slice() == self.2
     }
 }
@@ -139,11 +139,11 @@ impl Making for Build<'_> {
         }
     }
 
-    fn is_memory(&self, _fault: &NoMemory) -> bool {
+    fn is_want_of_memory(&self, _fault: &NoMemory) -> bool {
         true
     }
 
-    fn is_row(&self, alloc: Global, made: &Message) -> bool {
+    fn is_as_expected(&self, alloc: Global, made: &Message) -> bool {
         match made.encode(alloc) {
             Ok(octets) => octets.as_slice() == self.3,
             Err(_) => false,

@@ -3,7 +3,7 @@ use crate::messages::node;
 use crate::rows::*;
 use dm_base::{Kind, KindRef, Node, classify, common, common_nodes, host_order, secure, view};
 use dm_dict::{AvpType, Dictionary, Ip, Judged, Verdict, least_len, unix_seconds};
-use dm_refusal::{refuse_each, was_asked};
+use dm_refusal::{refuse_each_request, was_request_made};
 use dm_wire::{Avp, AvpWalk, Framer, Message, MessageRef, Octets, WireFault};
 use std::alloc::Global;
 use std::cmp::Ordering;
@@ -11,7 +11,7 @@ use std::process::Abort;
 
 /// The answers are right, and no request was made for them.
 fn check_quiet(rt: &(impl Abort + AllocGlobal), right: bool) {
-    let asked = was_asked(rt.alloc());
+    let asked = was_request_made(rt.alloc());
     assert!(rt; !asked, "a request was made");
     assert!(rt; right, "another answer");
 }
@@ -41,7 +41,7 @@ fn octets_are_walked(rt: HostRuntime) {
     let bad = octets(&rt, BAD_LENGTH);
     let data = Octets::from_slice(rt.alloc(), b"abc").expect(&rt, "memory");
     let avp = Avp::new(1, None, true, data);
-    refuse_each(rt.alloc());
+    refuse_each_request(rt.alloc());
     let is_good = is_read(row.as_slice(), None, (8, None));
     let is_bad = is_read(bad.as_slice(), Some(WireFault::AvpLength(20)), (0, Some(0)));
     let framer = Framer::new(rt.alloc(), 100);
@@ -69,7 +69,7 @@ fn code_of(base: &Dictionary, octets: &[u8]) -> Option<u32> {
 }
 
 fn check_dictionary(rt: &(impl Abort + AllocGlobal), base: &Dictionary, rows: &[&[u8]; 2]) {
-    refuse_each(rt.alloc());
+    refuse_each_request(rt.alloc());
     let empty = Dictionary::empty(rt.alloc());
     let times = unix_seconds(0) == 2085978496 && least_len(AvpType::Address) == 2;
     let codes = code_of(base, rows[0]).is_none() && code_of(base, rows[1]) == Some(5009);
@@ -109,7 +109,7 @@ fn check_verdicts(rt: &(impl Abort + AllocGlobal), base: &Dictionary, octets: &[
     let alloc = rt.alloc();
     let mut message = Message::decode(alloc, octets).expect(rt, "a message");
     let empty = Dictionary::empty(alloc);
-    refuse_each(alloc);
+    refuse_each_request(alloc);
     let good = checked(alloc, base, &message) == Some(0) && is_told(alloc, base, &message, true);
     let unknown = checked(alloc, &empty, &message) == Some(3001);
     message.header.error = true;
@@ -154,7 +154,7 @@ fn check_common(rt: &(impl Abort + AllocGlobal), base: &Dictionary, octets: &[u8
     drop(message);
     let one = node(rt, b"a.example", 4);
     let other = node(rt, b"b.example", 5);
-    refuse_each(rt.alloc());
+    refuse_each_request(rt.alloc());
     let shared = is_common(&kind, &one, &other) && is_viewed(base, octets, &one, &other);
     let order = host_order(b"B.example", b"a.example") == Ordering::Greater;
     check_quiet(rt, shared && order && !common_nodes(&one, &other));
@@ -186,7 +186,7 @@ fn nodes_are_made(rt: HostRuntime) {
     let addresses = Vec::from_slice(alloc, &[Ip::V4([127, 0, 0, 1])]).expect(&rt, "memory");
     let product = String::from_str(alloc, "dmpeer").expect(&rt, "memory");
     let auth = Vec::from_slice(alloc, &[4u32]).expect(&rt, "memory");
-    refuse_each(alloc);
+    refuse_each_request(alloc);
     let node = Node::new(host, realm, addresses, 0, product, auth, Vec::new(alloc));
     let right = is_host(&node, b"c.example");
     check_quiet(&rt, right);

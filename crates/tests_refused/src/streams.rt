@@ -2,7 +2,8 @@
 use crate::each::{each, each_made};
 use crate::rows::{WATCHDOG, octets};
 use dm_refusal::{
-    End, Making, Subject, answered, refuse, repeated, was_larger, was_refused, worse,
+    End, Making, Subject, end_of_answered_call, end_of_repeated_call, refuse_nth_request,
+    was_request_larger_than, was_request_refused, worse_end,
 };
 use dm_wire::{FrameFault, Framer};
 use std::alloc::Global;
@@ -36,14 +37,14 @@ fn told_by_copy(framer: &Framer) -> Option<Told> {
 /// A piece is fed with the nth request refused, and once more where memory was wanted.
 fn feed(alloc: Global, framer: &mut Framer, piece: &[u8], nth: u32) -> End {
     let before = told_by_copy(framer);
-    refuse(alloc, nth);
+    refuse_nth_request(alloc, nth);
     let fed = framer.feed(piece);
-    let refused = was_refused(alloc);
+    let refused = was_request_refused(alloc);
     match fed {
-        Ok(()) => answered(refused, true),
+        Ok(()) => end_of_answered_call(refused, true),
         Err(FrameFault::NoMemory) => {
             let same = before.is_some() && told_by_copy(framer) == before;
-            repeated(refused, same && framer.feed(piece).is_ok())
+            end_of_repeated_call(refused, same && framer.feed(piece).is_ok())
         }
         Err(_) => End::Fault,
     }
@@ -74,18 +75,21 @@ fn look_at(answer: Result<Option<Vec<u8>>, FrameFault>, row: &[u8]) -> Given {
 /// What `next` gives with the nth request refused, or once more where memory was wanted.
 fn next(alloc: Global, framer: &mut Framer, row: &[u8], nth: u32) -> (End, Given) {
     let before = told_by_copy(framer);
-    refuse(alloc, nth);
+    refuse_nth_request(alloc, nth);
     let first = framer.next();
-    let refused = was_refused(alloc);
+    let refused = was_request_refused(alloc);
     match first {
         Err(FrameFault::NoMemory) => {
             let same = before.is_some() && told_by_copy(framer) == before;
             let again = look_at(framer.next(), row);
-            (repeated(refused, same && again != Given::Other), again)
+            (
+                end_of_repeated_call(refused, same && again != Given::Other),
+                again,
+            )
         }
         first => {
             let it = look_at(first, row);
-            (answered(refused, it != Given::Other), it)
+            (end_of_answered_call(refused, it != Given::Other), it)
         }
     }
 }
@@ -95,7 +99,7 @@ fn drain(alloc: Global, framer: &mut Framer, row: &[u8], nth: u32, count: &mut u
     let mut end = End::Whole;
     for _ in 0..3u8 {
         let (one, it) = next(alloc, framer, row, nth);
-        end = worse(end, one);
+        end = worse_end(end, one);
         if it != Given::Row {
             return end;
         }
@@ -110,8 +114,8 @@ fn come(alloc: Global, twice: &[u8], row: &[u8], size: usize, nth: u32) -> End {
     let mut end = End::Whole;
     let mut count = 0u32;
     for piece in twice.chunks(size.max(1)) {
-        end = worse(end, feed(alloc, &mut framer, piece, nth));
-        end = worse(end, drain(alloc, &mut framer, row, nth, &mut count));
+        end = worse_end(end, feed(alloc, &mut framer, piece, nth));
+        end = worse_end(end, drain(alloc, &mut framer, row, nth, &mut count));
     }
     drop(framer);
     if count == 2 { end } else { End::Changed }
@@ -122,7 +126,7 @@ fn come(alloc: Global, twice: &[u8], row: &[u8], size: usize, nth: u32) -> End {
 struct Stream<'a>(&'a [u8], &'a [u8], usize);
 
 impl<R: AllocGlobal> Subject<R> for Stream<'_> {
-    fn end(&self, rt: &R, nth: u32) -> End {
+    fn end_when_refused(&self, rt: &R, nth: u32) -> End {
         come(rt.alloc(), self.0, self.1, self.2, nth)
     }
 }
@@ -155,11 +159,11 @@ impl Making for Copied<'_> {
         self.0.copy()
     }
 
-    fn is_memory(&self, fault: &FrameFault) -> bool {
+    fn is_want_of_memory(&self, fault: &FrameFault) -> bool {
         *fault == FrameFault::NoMemory
     }
 
-    fn is_row(&self, _alloc: Global, made: &Framer) -> bool {
+    fn is_as_expected(&self, _alloc: Global, made: &Framer) -> bool {
         match made.copy() {
             Ok(mut copy) => {
                 let fed = copy.feed(self.1).is_ok() && copy.feed(self.2).is_ok();
@@ -198,9 +202,9 @@ fn comes(framer: &mut Framer, row: &[u8], count: u32) -> u32 {
 fn a_long_stream_takes_little(rt: HostRuntime) {
     let row = octets(&rt, WATCHDOG);
     let mut framer = Framer::new(rt.alloc(), GREATEST);
-    refuse(rt.alloc(), 0);
+    refuse_nth_request(rt.alloc(), 0);
     let came = comes(&mut framer, row.as_slice(), 10_000);
-    let larger = was_larger(rt.alloc(), 1000);
+    let larger = was_request_larger_than(rt.alloc(), 1000);
     drop(framer);
     assert_eq!(&rt; came, 10_000);
     assert!(&rt; !larger);

@@ -18,11 +18,11 @@ impl Making for Read<'_> {
         read_value(alloc, self.0, self.1)
     }
 
-    fn is_memory(&self, fault: &ValueFault) -> bool {
+    fn is_want_of_memory(&self, fault: &ValueFault) -> bool {
         *fault == ValueFault::NoMemory
     }
 
-    fn is_row(&self, alloc: Global, made: &Value) -> bool {
+    fn is_as_expected(&self, alloc: Global, made: &Value) -> bool {
         match write_value(alloc, made) {
             Ok(octets) => octets.as_slice() == self.1,
             Err(_) => false,
@@ -42,11 +42,11 @@ impl Making for Write<'_> {
         write_value(alloc, self.0)
     }
 
-    fn is_memory(&self, fault: &ValueFault) -> bool {
+    fn is_want_of_memory(&self, fault: &ValueFault) -> bool {
         *fault == ValueFault::NoMemory
     }
 
-    fn is_row(&self, _alloc: Global, made: &Vec<u8>) -> bool {
+    fn is_as_expected(&self, _alloc: Global, made: &Vec<u8>) -> bool {
         made.as_slice() == self.1
     }
 }

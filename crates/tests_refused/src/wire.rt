@@ -26,11 +26,11 @@ impl Making for Decode<'_> {
         Message::decode(alloc, self.0)
     }
 
-    fn is_memory(&self, fault: &WireFault) -> bool {
+    fn is_want_of_memory(&self, fault: &WireFault) -> bool {
         *fault == WireFault::NoMemory
     }
 
-    fn is_row(&self, alloc: Global, made: &Message) -> bool {
+    fn is_as_expected(&self, alloc: Global, made: &Message) -> bool {
         is_written(made.encode(alloc), self.0)
     }
 }
@@ -47,11 +47,11 @@ impl Making for Encode<'_> {
         self.0.encode(alloc)
     }
 
-    fn is_memory(&self, fault: &WireFault) -> bool {
+    fn is_want_of_memory(&self, fault: &WireFault) -> bool {
         *fault == WireFault::NoMemory
     }
 
-    fn is_row(&self, _alloc: Global, made: &Vec<u8>) -> bool {
+    fn is_as_expected(&self, _alloc: Global, made: &Vec<u8>) -> bool {
         made.as_slice() == self.1
     }
 }
@@ -68,11 +68,11 @@ impl Making for DecodeList<'_> {
         decode_avps(alloc, self.0)
     }
 
-    fn is_memory(&self, fault: &WireFault) -> bool {
+    fn is_want_of_memory(&self, fault: &WireFault) -> bool {
         *fault == WireFault::NoMemory
     }
 
-    fn is_row(&self, alloc: Global, made: &Vec<Avp>) -> bool {
+    fn is_as_expected(&self, alloc: Global, made: &Vec<Avp>) -> bool {
         made.len() == 2 && is_written(encode_avps(alloc, made.as_slice()), self.0)
     }
 }
@@ -89,11 +89,11 @@ impl Making for EncodeList<'_> {
         encode_avps(alloc, self.0)
     }
 
-    fn is_memory(&self, fault: &WireFault) -> bool {
+    fn is_want_of_memory(&self, fault: &WireFault) -> bool {
         *fault == WireFault::NoMemory
     }
 
-    fn is_row(&self, _alloc: Global, made: &Vec<u8>) -> bool {
+    fn is_as_expected(&self, _alloc: Global, made: &Vec<u8>) -> bool {
         made.as_slice() == self.1
     }
 }

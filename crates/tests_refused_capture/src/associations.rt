@@ -2,7 +2,10 @@
 use crate::each::each;
 use dm_association::SctpFlow;
 use dm_flows::DataChunk;
-use dm_refusal::{End, Subject, answered, refuse, repeated, was_refused, worse};
+use dm_refusal::{
+    End, Subject, end_of_answered_call, end_of_repeated_call, refuse_nth_request,
+    was_request_refused, worse_end,
+};
 use std::alloc::Global;
 use std::process::Abort;
 
@@ -50,18 +53,18 @@ fn length_of(message: Option<Vec<u8>>) -> u64 {
 
 /// A chunk is taken with the nth request refused, and once more where memory was wanted.
 fn take(alloc: Global, flow: &mut SctpFlow, chunk: &Chunk, nth: u32, sum: &mut u64) -> End {
-    refuse(alloc, nth);
-    let first = flow.take(chunk_of(chunk));
-    let refused = was_refused(alloc);
+    refuse_nth_request(alloc, nth);
+    let first = flow.take_chunk(chunk_of(chunk));
+    let refused = was_request_refused(alloc);
     match first {
         Ok(message) => {
             *sum = sum.saturating_add(length_of(message));
-            answered(refused, true)
+            end_of_answered_call(refused, true)
         }
-        Err(_) => match flow.take(chunk_of(chunk)) {
+        Err(_) => match flow.take_chunk(chunk_of(chunk)) {
             Ok(message) => {
                 *sum = sum.saturating_add(length_of(message));
-                repeated(refused, true)
+                end_of_repeated_call(refused, true)
             }
             Err(_) => End::Alone,
         },
@@ -78,19 +81,19 @@ struct Row<'a> {
 fn end_of(alloc: Global, row: &Row<'_>, nth: u32) -> End {
     let mut flow = SctpFlow::new(alloc);
     if row.is_begun {
-        flow.begin(10);
+        flow.begin_association(10);
     }
     let mut end = End::Whole;
     let mut sum = 0u64;
     for chunk in row.chunks {
-        end = worse(end, take(alloc, &mut flow, chunk, nth, &mut sum));
+        end = worse_end(end, take(alloc, &mut flow, chunk, nth, &mut sum));
     }
     drop(flow);
     if sum == OCTETS { end } else { End::Changed }
 }
 
 impl<R: AllocGlobal> Subject<R> for Row<'_> {
-    fn end(&self, rt: &R, nth: u32) -> End {
+    fn end_when_refused(&self, rt: &R, nth: u32) -> End {
         end_of(rt.alloc(), self, nth)
     }
 }

@@ -1,7 +1,10 @@
 //! Packets out of a capture.
 use crate::each::each;
 use dm_capture::{CaptureFault, CaptureReader, FaultKind, Packet};
-use dm_refusal::{End, Subject, answered, refuse, repeated, was_refused, worse};
+use dm_refusal::{
+    End, Subject, end_of_answered_call, end_of_repeated_call, refuse_nth_request,
+    was_request_refused, worse_end,
+};
 use std::alloc::Global;
 
 /// Two packets of pcap, the second one cut.
@@ -14,12 +17,12 @@ const PCAPNG: &str =
 
 /// A piece is fed with the nth request refused, and once more where memory was wanted.
 fn feed(alloc: Global, capture: &mut CaptureReader, piece: &[u8], nth: u32) -> End {
-    refuse(alloc, nth);
+    refuse_nth_request(alloc, nth);
     let fed = capture.feed(piece);
-    let refused = was_refused(alloc);
+    let refused = was_request_refused(alloc);
     match fed {
-        Ok(()) => answered(refused, true),
-        Err(_) => repeated(refused, capture.feed(piece).is_ok()),
+        Ok(()) => end_of_answered_call(refused, true),
+        Err(_) => end_of_repeated_call(refused, capture.feed(piece).is_ok()),
     }
 }
 
@@ -48,15 +51,18 @@ fn counted(answer: Result<Option<Packet>, CaptureFault>, sum: &mut u64) -> Optio
 /// The next packet with the nth request refused, and once more where memory was wanted; how that ended, and whether it
 /// was the last one there.
 fn next(alloc: Global, capture: &mut CaptureReader, nth: u32, sum: &mut u64) -> (End, Option<End>) {
-    refuse(alloc, nth);
+    refuse_nth_request(alloc, nth);
     let first = capture.next();
-    let refused = was_refused(alloc);
+    let refused = was_request_refused(alloc);
     match first {
         Err(fault) if fault.kind == FaultKind::OutOfMemory => {
             let last = counted(capture.next(), sum);
-            (repeated(refused, last != Some(End::Fault)), last)
+            (
+                end_of_repeated_call(refused, last != Some(End::Fault)),
+                last,
+            )
         }
-        first => (answered(refused, true), counted(first, sum)),
+        first => (end_of_answered_call(refused, true), counted(first, sum)),
     }
 }
 
@@ -65,9 +71,9 @@ fn drain(alloc: Global, capture: &mut CaptureReader, nth: u32, sum: &mut u64) ->
     let mut end = End::Whole;
     for _ in 0..4u8 {
         let (one, last) = next(alloc, capture, nth, sum);
-        end = worse(end, one);
+        end = worse_end(end, one);
         if let Some(last) = last {
-            return worse(end, last);
+            return worse_end(end, last);
         }
     }
     End::Changed
@@ -86,15 +92,15 @@ fn end_of(alloc: Global, row: &Row<'_>, nth: u32) -> End {
     let mut end = End::Whole;
     let mut sum = 0u64;
     for piece in row.octets.chunks(row.size.max(1)) {
-        end = worse(end, feed(alloc, &mut capture, piece, nth));
-        end = worse(end, drain(alloc, &mut capture, nth, &mut sum));
+        end = worse_end(end, feed(alloc, &mut capture, piece, nth));
+        end = worse_end(end, drain(alloc, &mut capture, nth, &mut sum));
     }
     drop(capture);
     if sum == row.sum { end } else { End::Changed }
 }
 
 impl<R: AllocGlobal> Subject<R> for Row<'_> {
-    fn end(&self, rt: &R, nth: u32) -> End {
+    fn end_when_refused(&self, rt: &R, nth: u32) -> End {
         end_of(rt.alloc(), self, nth)
     }
 }

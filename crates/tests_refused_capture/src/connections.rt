@@ -2,7 +2,10 @@
 use crate::each::each;
 use dm_connections::{Choice, Connections, Ends};
 use dm_flows::{Address, Endpoint, Segment};
-use dm_refusal::{End, Subject, answered, refuse, repeated, was_refused, worse};
+use dm_refusal::{
+    End, Subject, end_of_answered_call, end_of_repeated_call, refuse_nth_request,
+    was_request_refused, worse_end,
+};
 use std::alloc::Global;
 use std::hash::RandomState;
 use std::process::Abort;
@@ -74,13 +77,13 @@ fn take(
     nth: u32,
 ) -> (End, Option<Ends>) {
     let choice = Choice::Ports(&[3868]);
-    refuse(alloc, nth);
-    let first = connections.take(choice, segment);
-    let refused = was_refused(alloc);
+    refuse_nth_request(alloc, nth);
+    let first = connections.take_if_held_or_wanted(choice, segment);
+    let refused = was_request_refused(alloc);
     match first {
-        Ok(ends) => (answered(refused, true), ends),
-        Err(_) => match connections.take(choice, segment) {
-            Ok(ends) => (repeated(refused, true), ends),
+        Ok(ends) => (end_of_answered_call(refused, true), ends),
+        Err(_) => match connections.take_if_held_or_wanted(choice, segment) {
+            Ok(ends) => (end_of_repeated_call(refused, true), ends),
             Err(_) => (End::Alone, None),
         },
     }
@@ -108,13 +111,13 @@ fn next(
     nth: u32,
     told: &mut u64,
 ) -> (End, bool) {
-    refuse(alloc, nth);
-    let first = connections.next(ends, from_first);
-    let refused = was_refused(alloc);
+    refuse_nth_request(alloc, nth);
+    let first = connections.next_message_of(ends, from_first);
+    let refused = was_request_refused(alloc);
     match first {
-        Ok(message) => (answered(refused, true), count(message, told)),
-        Err(_) => match connections.next(ends, from_first) {
-            Ok(message) => (repeated(refused, true), count(message, told)),
+        Ok(message) => (end_of_answered_call(refused, true), count(message, told)),
+        Err(_) => match connections.next_message_of(ends, from_first) {
+            Ok(message) => (end_of_repeated_call(refused, true), count(message, told)),
             Err(_) => (End::Alone, false),
         },
     }
@@ -132,7 +135,7 @@ fn drain(
     let mut end = End::Whole;
     for _ in 0..4u8 {
         let (one, more) = next(alloc, connections, ends, from_first, nth, told);
-        end = worse(end, one);
+        end = worse_end(end, one);
         if !more {
             return end;
         }
@@ -149,10 +152,10 @@ fn come(alloc: Global, connections: &mut Connections, rows: &[Row], nth: u32) ->
     for row in rows {
         let segment = segment_of(row, &stream);
         let (one, ends) = take(alloc, connections, segment, nth);
-        end = worse(end, one);
+        end = worse_end(end, one);
         if let Some(ends) = ends {
             let is_first = ends.first == segment.source;
-            end = worse(
+            end = worse_end(
                 end,
                 drain(alloc, connections, ends, is_first, nth, &mut told),
             );
@@ -180,7 +183,7 @@ fn end_of(alloc: Global, keys: RandomState, segments: &Segments<'_>, nth: u32) -
 }
 
 impl<R: AllocGlobal + RandomSource> Subject<R> for Segments<'_> {
-    fn end(&self, rt: &R, nth: u32) -> End {
+    fn end_when_refused(&self, rt: &R, nth: u32) -> End {
         match RandomState::new(rt) {
             Ok(keys) => end_of(rt.alloc(), keys, self, nth),
             Err(_) => End::Fault,

@@ -2,8 +2,11 @@
 use crate::each::each;
 use dm_capture::{Resolution, Time};
 use dm_flows::{Address, Endpoint};
-use dm_refusal::{End, Subject, answered, refuse, repeated, was_refused};
-use dm_trace::{Clock, Seen, Transport, put_front, put_json_front};
+use dm_refusal::{
+    End, Subject, end_of_answered_call, end_of_repeated_call, refuse_nth_request,
+    was_request_refused,
+};
+use dm_trace::{Clock, Seen, Transport, put_seen, put_seen_members};
 use dm_view::JsonText;
 use std::alloc::{AllocError, Global};
 use std::process::Abort;
@@ -40,7 +43,7 @@ fn put_object(alloc: Global, text: &mut String) -> Result<(), AllocError> {
     let put = put_members(&mut json, &mut room);
     drop(room);
     match put {
-        Ok(()) => json.put_line(text),
+        Ok(()) => json.put_line_into(text),
         Err(error) => {
             drop(json);
             Err(error)
@@ -50,7 +53,7 @@ fn put_object(alloc: Global, text: &mut String) -> Result<(), AllocError> {
 
 fn put_members(json: &mut JsonText, room: &mut String) -> Result<(), AllocError> {
     json.begin_object()?;
-    put_json_front(json, room, Clock::Utc, &seen())?;
+    put_seen_members(json, room, Clock::Utc, &seen())?;
     json.end_object()
 }
 
@@ -66,7 +69,7 @@ impl Row<'_> {
         if self.is_json {
             put_object(alloc, text)
         } else {
-            put_front(text, Clock::Utc, &seen())
+            put_seen(text, Clock::Utc, &seen())
         }
     }
 }
@@ -75,9 +78,9 @@ impl Row<'_> {
 /// asks for at once.
 fn end_of(alloc: Global, row: &Row<'_>, nth: u32) -> End {
     let mut text = String::new(alloc);
-    refuse(alloc, nth);
+    refuse_nth_request(alloc, nth);
     let first = row.put(alloc, &mut text);
-    let refused = was_refused(alloc);
+    let refused = was_request_refused(alloc);
     if first.is_err() {
         text.clear();
     }
@@ -86,13 +89,13 @@ fn end_of(alloc: Global, row: &Row<'_>, nth: u32) -> End {
     drop(text);
     match first {
         Ok(()) if refused && row.is_json && right => End::Again,
-        Ok(()) => answered(refused, right),
-        Err(_) => repeated(refused, right),
+        Ok(()) => end_of_answered_call(refused, right),
+        Err(_) => end_of_repeated_call(refused, right),
     }
 }
 
 impl<R: AllocGlobal> Subject<R> for Row<'_> {
-    fn end(&self, rt: &R, nth: u32) -> End {
+    fn end_when_refused(&self, rt: &R, nth: u32) -> End {
         end_of(rt.alloc(), self, nth)
     }
 }

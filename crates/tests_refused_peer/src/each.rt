@@ -1,15 +1,15 @@
 //! Each request of a call refused in turn.
-use dm_refusal::{End, Making, Subject, last, last_made};
+use dm_refusal::{End, Making, Subject, refuse_requests_in_turn, refuse_requests_while_making};
 use std::process::Abort;
 
 /// The call ends well whichever of its requests is refused.
 pub fn each<R: Abort>(rt: &R, subject: &impl Subject<R>, name: &str) {
-    let (nth, end) = last(rt, subject);
+    let (nth, end) = refuse_requests_in_turn(rt, subject);
     assert!(rt; end == End::Whole, "{name}: {end:?} at request {nth}");
 }
 
 /// The same of a call that makes something.
 pub fn each_made(rt: &(impl Abort + AllocGlobal), making: &impl Making, name: &str) {
-    let (nth, end) = last_made(rt.alloc(), making);
+    let (nth, end) = refuse_requests_while_making(rt.alloc(), making);
     assert!(rt; end == End::Whole, "{name}: {end:?} at request {nth}");
 }

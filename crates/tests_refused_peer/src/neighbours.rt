@@ -4,7 +4,7 @@ use crate::nodes::{Call, Driven, call_once, make_driven, policy};
 use crate::rows::{CER, CER_OF_B, SUBMITTED, octets};
 use dm_node::{Open, Order};
 use dm_peer::Conn;
-use dm_refusal::{End, Subject, worse};
+use dm_refusal::{End, Subject, worse_end};
 use std::alloc::Global;
 use std::process::Abort;
 
@@ -45,13 +45,13 @@ fn tell_all(
     let mut end = End::Whole;
     for (at, call) in calls(telling).iter().enumerate() {
         let nth = if at == telling.place { nth } else { 0 };
-        end = worse(end, call_once(alloc, one, twin, policy, *call, nth));
+        end = worse_end(end, call_once(alloc, one, twin, policy, *call, nth));
     }
     end
 }
 
 impl<R: Abort + AllocGlobal> Subject<R> for Telling<'_> {
-    fn end(&self, rt: &R, nth: u32) -> End {
+    fn end_when_refused(&self, rt: &R, nth: u32) -> End {
         let mut one = make_driven(rt);
         let mut twin = make_driven(rt);
         let policy = policy(rt);

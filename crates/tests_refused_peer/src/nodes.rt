@@ -3,7 +3,10 @@ use crate::each::each;
 use crate::peers::{are_same, config, node};
 use crate::rows::{CER, CER_OF_B, CER_OF_C, SUBMITTED, octets};
 use dm_node::{AddFault, Answer, Config, Conn, Node, Open, Order, OrderFault, PeerFault};
-use dm_refusal::{End, Subject, answered, refuse, repeated, was_refused, worse};
+use dm_refusal::{
+    End, Subject, end_of_answered_call, end_of_repeated_call, refuse_nth_request,
+    was_request_refused, worse_end,
+};
 use std::alloc::{AllocError, Global};
 use std::process::Abort;
 
@@ -142,20 +145,20 @@ pub fn call_once(
     call: Call<'_>,
     nth: u32,
 ) -> End {
-    refuse(alloc, nth);
+    refuse_nth_request(alloc, nth);
     let first = respond(alloc, one, policy, call);
-    let refused = was_refused(alloc);
+    let refused = was_request_refused(alloc);
     if first == Reply::Memory {
         let same = is_same_node(&one.node, &twin.node);
-        return repeated(refused, same && call_both(alloc, one, twin, policy, call));
+        return end_of_repeated_call(refused, same && call_both(alloc, one, twin, policy, call));
     }
     // Where the look-up of connections can't grow, neighbours are asked one by one, and the answer is the same.
     let second = respond(alloc, twin, policy, call);
     let right = first == second && is_same(one, twin);
     if refused {
-        repeated(refused, right)
+        end_of_repeated_call(refused, right)
     } else {
-        answered(refused, right)
+        end_of_answered_call(refused, right)
     }
 }
 
@@ -217,13 +220,13 @@ fn call_all(
     let mut end = End::Whole;
     for (at, call) in calls(run).iter().enumerate() {
         let nth = if at == run.place { nth } else { 0 };
-        end = worse(end, call_once(alloc, one, twin, policy, *call, nth));
+        end = worse_end(end, call_once(alloc, one, twin, policy, *call, nth));
     }
     end
 }
 
 impl<R: Abort + AllocGlobal> Subject<R> for Run<'_> {
-    fn end(&self, rt: &R, nth: u32) -> End {
+    fn end_when_refused(&self, rt: &R, nth: u32) -> End {
         let mut one = make_driven(rt);
         let mut twin = make_driven(rt);
         let policy = policy(rt);
@@ -273,26 +276,26 @@ fn added_end(node: &mut Node, again: Config, added: Result<usize, AddFault>, ref
     match added {
         Err(AddFault::NoMemory) => {
             let same = node.iter().len() == 4;
-            repeated(refused, node.add(again) == Ok(4) && same)
+            end_of_repeated_call(refused, node.add(again) == Ok(4) && same)
         }
         added => {
             let known = node.add(again) == Err(AddFault::Known);
-            answered(refused, added == Ok(4) && known)
+            end_of_answered_call(refused, added == Ok(4) && known)
         }
     }
 }
 
 impl<R: Abort + AllocGlobal> Subject<R> for Adding<'_> {
-    fn end(&self, rt: &R, nth: u32) -> End {
+    fn end_when_refused(&self, rt: &R, nth: u32) -> End {
         let mut node = of_one(rt);
         for host in [b"d.example", b"e.example", b"f.example"] {
             let _added = node.add(config(rt, b"a.example", host, 4));
         }
         let first = config(rt, b"a.example", self.host, 4);
         let second = config(rt, b"a.example", self.host, 4);
-        refuse(rt.alloc(), nth);
+        refuse_nth_request(rt.alloc(), nth);
         let added = node.add(first);
-        let refused = was_refused(rt.alloc());
+        let refused = was_request_refused(rt.alloc());
         let end = added_end(&mut node, second, added, refused);
         drop(node);
         end

@@ -3,7 +3,10 @@ use crate::each::each;
 use crate::rows::*;
 use dm_dict::Ip;
 use dm_peer::{Action, Actions, Cause, Config, ConfigFault, Conn, Event, Node, Peer, PeerFault};
-use dm_refusal::{End, Subject, answered, refuse, repeated, was_refused, worse};
+use dm_refusal::{
+    End, Subject, end_of_answered_call, end_of_repeated_call, refuse_nth_request,
+    was_request_refused, worse_end,
+};
 use std::alloc::Global;
 use std::process::Abort;
 
@@ -99,17 +102,17 @@ fn tell_both(alloc: Global, peer: &mut Peer, twin: &mut Peer, told: Event<'_>) -
 
 /// The peer is told with the nth request refused, and once more where memory was wanted. The twin is told with memory.
 fn tell(alloc: Global, peer: &mut Peer, twin: &mut Peer, told: Event<'_>, nth: u32) -> End {
-    refuse(alloc, nth);
+    refuse_nth_request(alloc, nth);
     let first = peer.on(alloc, told);
-    let refused = was_refused(alloc);
+    let refused = was_request_refused(alloc);
     match first {
         Err(PeerFault::NoMemory) => {
             let same = is_same(peer, twin);
-            repeated(refused, same && tell_both(alloc, peer, twin, told))
+            end_of_repeated_call(refused, same && tell_both(alloc, peer, twin, told))
         }
         first => {
             let second = twin.on(alloc, told);
-            answered(
+            end_of_answered_call(
                 refused,
                 is_same_answer(first, second) && is_same(peer, twin),
             )
@@ -130,7 +133,7 @@ fn tell_all(
         let octets = octets(rt, digits(*told));
         let nth = if at == telling.place { nth } else { 0 };
         let event = event(*told, octets.as_slice());
-        end = worse(end, tell(rt.alloc(), peer, twin, event, nth));
+        end = worse_end(end, tell(rt.alloc(), peer, twin, event, nth));
     }
     end
 }
@@ -187,7 +190,7 @@ fn end_beside(
 }
 
 impl<R: Abort + AllocGlobal> Subject<R> for Telling<'_> {
-    fn end(&self, rt: &R, nth: u32) -> End {
+    fn end_when_refused(&self, rt: &R, nth: u32) -> End {
         let mut one = peer(rt, self.host, self.other, self.application);
         let end = end_beside(rt, &mut one, self, nth);
         drop(one);
@@ -335,7 +338,7 @@ fn crossings(rt: HostRuntime) {
 struct Hosts<'a>(&'a [u8], &'a [u8]);
 
 /// Whether the configuration is of the one host for the other.
-fn is_row(made: &Result<Config, ConfigFault>, hosts: &Hosts<'_>) -> bool {
+fn is_as_expected(made: &Result<Config, ConfigFault>, hosts: &Hosts<'_>) -> bool {
     match made {
         Ok(config) => config.node().host() == hosts.0 && config.peer_host() == hosts.1,
         Err(_) => false,
@@ -349,21 +352,21 @@ type Configured = (bool, bool, Option<ConfigFault>);
 fn configure(rt: &(impl Abort + AllocGlobal), hosts: &Hosts<'_>, nth: u32) -> Configured {
     let node = node(rt, hosts.0, 4);
     let other = Vec::from_slice(rt.alloc(), hosts.1).expect(rt, "memory");
-    refuse(rt.alloc(), nth);
+    refuse_nth_request(rt.alloc(), nth);
     let made = Config::new(rt.alloc(), node, other, 1);
-    let refused = was_refused(rt.alloc());
-    let right = is_row(&made, hosts);
+    let refused = was_request_refused(rt.alloc());
+    let right = is_as_expected(&made, hosts);
     (refused, right, made.err())
 }
 
 impl<R: Abort + AllocGlobal> Subject<R> for Hosts<'_> {
-    fn end(&self, rt: &R, nth: u32) -> End {
+    fn end_when_refused(&self, rt: &R, nth: u32) -> End {
         let (refused, right, fault) = configure(rt, self, nth);
         match fault {
-            None => answered(refused, right),
+            None => end_of_answered_call(refused, right),
             Some(ConfigFault::NoMemory) => {
                 let (_, right, _) = configure(rt, self, 0);
-                repeated(refused, right)
+                end_of_repeated_call(refused, right)
             }
             Some(_) => End::Fault,
         }

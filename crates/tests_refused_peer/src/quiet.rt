@@ -3,7 +3,7 @@ use crate::peers::{config, node, peer};
 use crate::rows::*;
 use crate::scripts::{list_of, script};
 use dm_peer::{Cause, Config, Conn, Core, Event, Input, Peer, PeerFault, Refusal, State, step};
-use dm_refusal::{refuse_each, was_asked};
+use dm_refusal::{refuse_each_request, was_request_made};
 use dm_replay::Script;
 use dm_world::{Effect, Happening, Side, World, WorldFault};
 use std::alloc::Global;
@@ -11,7 +11,7 @@ use std::process::Abort;
 
 /// The answers are right, and no request was made for them.
 pub fn check_quiet(rt: &(impl Abort + AllocGlobal), right: bool) {
-    let asked = was_asked(rt.alloc());
+    let asked = was_request_made(rt.alloc());
     assert!(rt; !asked, "a request was made");
     assert!(rt; right, "another answer");
 }
@@ -33,7 +33,7 @@ fn is_started(core: &Core) -> bool {
 
 #[test]
 fn cores_step(rt: HostRuntime) {
-    refuse_each(rt.alloc());
+    refuse_each_request(rt.alloc());
     let core = Core::new();
     let right = is_started(&core) && core.state() == State::Closed;
     check_quiet(&rt, right);
@@ -67,7 +67,7 @@ fn peers_start(rt: HostRuntime) {
     let node = node(&rt, b"a.example", 4);
     let other = Vec::from_slice(rt.alloc(), b"b.example").expect(&rt, "memory");
     let config = Config::new(rt.alloc(), node, other, 1).expect(&rt, "a configuration");
-    refuse_each(rt.alloc());
+    refuse_each_request(rt.alloc());
     let named = config.node().host() == b"a.example".as_slice()
         && config.peer_host() == b"b.example".as_slice();
     let mut peer = Peer::new(config.comparing());
@@ -100,7 +100,7 @@ fn answers_are_dropped(rt: HostRuntime) {
     let is_acked = goes_to(alloc, &mut peer, Event::Start(Conn(0)), State::WaitConnAck)
         && goes_to(alloc, &mut peer, Event::Ack(Conn(0)), State::WaitICea);
     assert!(&rt; is_acked);
-    refuse_each(alloc);
+    refuse_each_request(alloc);
     drops(&rt, &mut peer, answer.as_slice());
     drop(peer);
 }
@@ -114,7 +114,7 @@ fn hosts_are_compared(rt: HostRuntime) {
     let is_acked = goes_to(alloc, &mut peer, Event::Start(Conn(0)), State::WaitConnAck)
         && goes_to(alloc, &mut peer, Event::Ack(Conn(0)), State::WaitICea);
     assert!(&rt; is_acked);
-    refuse_each(alloc);
+    refuse_each_request(alloc);
     let heard = Event::Arrived(Conn(0), answer.as_slice());
     let right = goes_to(alloc, &mut peer, heard, State::Closed);
     check_quiet(&rt, right);
@@ -129,7 +129,7 @@ fn new_connections_are_rejected(rt: HostRuntime) {
     let alloc = rt.alloc();
     let first = Event::Arrived(Conn(7), cer.as_slice());
     assert!(&rt; goes_to(alloc, &mut peer, first, State::ROpen));
-    refuse_each(alloc);
+    refuse_each_request(alloc);
     let second = Event::Arrived(Conn(8), cer.as_slice());
     let right = goes_to(alloc, &mut peer, second, State::ROpen)
         && peer.is_open()
@@ -162,7 +162,7 @@ fn loses_and_restarts(alloc: Global, world: &mut World) -> bool {
 fn quiet_world(rt: &(impl Abort + AllocGlobal), text: &str) -> World {
     let Script { left, right, list } = script(rt, text.as_bytes());
     drop(list);
-    refuse_each(rt.alloc());
+    refuse_each_request(rt.alloc());
     let made = World::new(rt.alloc(), left, right);
     check_quiet(rt, made.is_ok());
     made.expect(rt, "a world")
@@ -181,7 +181,7 @@ fn answered_world(rt: &(impl Abort + AllocGlobal)) -> World {
 #[test]
 fn worlds_lose_and_restart(rt: HostRuntime) {
     let mut world = answered_world(&rt);
-    refuse_each(rt.alloc());
+    refuse_each_request(rt.alloc());
     let right = loses_and_restarts(rt.alloc(), &mut world);
     check_quiet(&rt, right);
     drop(world);
@@ -204,7 +204,7 @@ fn ignores_and_drops(alloc: Global, world: &mut World) -> bool {
 #[test]
 fn worlds_drop_at_a_shut_end(rt: HostRuntime) {
     let mut world = answered_world(&rt);
-    refuse_each(rt.alloc());
+    refuse_each_request(rt.alloc());
     let right = ignores_and_drops(rt.alloc(), &mut world);
     check_quiet(&rt, right);
     drop(world);

@@ -4,7 +4,10 @@ use crate::peers::{are_same, peer};
 use crate::rows::{CER, SUBMITTED};
 use dm_history::running::run;
 use dm_peer::{Actions, Conn, Event, Peer, PeerFault};
-use dm_refusal::{End, Subject, answered, refuse, repeated, was_refused};
+use dm_refusal::{
+    End, Subject, end_of_answered_call, end_of_repeated_call, refuse_nth_request,
+    was_request_refused,
+};
 use std::process::Abort;
 
 fn is_same_reply(one: &Result<Actions, PeerFault>, other: &Result<Actions, PeerFault>) -> bool {
@@ -56,9 +59,9 @@ fn end_beside(
     nth: u32,
 ) -> End {
     let all = run(twin, rt.alloc(), events);
-    refuse(rt.alloc(), nth);
+    refuse_nth_request(rt.alloc(), nth);
     let first = run(one, rt.alloc(), events);
-    let refused = was_refused(rt.alloc());
+    let refused = was_request_refused(rt.alloc());
     let count = first.replies.len();
     let rest = run(one, rt.alloc(), &events[count..]);
     let right = are_cut(
@@ -70,14 +73,14 @@ fn end_beside(
     drop(rest);
     drop(all);
     if count == events.len() {
-        answered(refused, right)
+        end_of_answered_call(refused, right)
     } else {
-        repeated(refused, right)
+        end_of_repeated_call(refused, right)
     }
 }
 
 impl<R: Abort + AllocGlobal> Subject<R> for Brought<'_> {
-    fn end(&self, rt: &R, nth: u32) -> End {
+    fn end_when_refused(&self, rt: &R, nth: u32) -> End {
         let events = [
             Event::Arrived(Conn(7), self.cer),
             Event::Start(Conn(8)),

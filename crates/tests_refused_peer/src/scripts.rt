@@ -58,11 +58,11 @@ impl Making for Read<'_> {
         read_script(alloc, self.0)
     }
 
-    fn is_memory(&self, fault: &ScriptFault) -> bool {
+    fn is_want_of_memory(&self, fault: &ScriptFault) -> bool {
         *fault == ScriptFault::NoMemory
     }
 
-    fn is_row(&self, _alloc: Global, made: &Option<Script>) -> bool {
+    fn is_as_expected(&self, _alloc: Global, made: &Option<Script>) -> bool {
         match made {
             Some(script) => {
                 script.list.as_slice().len() == self.1
@@ -87,11 +87,11 @@ impl Making for Line<'_> {
         trace(alloc, 4, Effect::Done, self.0)
     }
 
-    fn is_memory(&self, _fault: &NoMemory) -> bool {
+    fn is_want_of_memory(&self, _fault: &NoMemory) -> bool {
         true
     }
 
-    fn is_row(&self, _alloc: Global, made: &Vec<u8>) -> bool {
+    fn is_as_expected(&self, _alloc: Global, made: &Vec<u8>) -> bool {
         made.as_slice() == self.1
     }
 }

@@ -4,7 +4,10 @@ use crate::peers::{config, node};
 use crate::rows::CER_OF_B;
 use dm_node::{Answer, Node, Open, Order, Strangers};
 use dm_peer::{Config, Conn, State};
-use dm_refusal::{End, Subject, answered, refuse, repeated, was_refused};
+use dm_refusal::{
+    End, Subject, end_of_answered_call, end_of_repeated_call, refuse_nth_request,
+    was_request_refused,
+};
 use std::alloc::{AllocError, Global};
 use std::process::Abort;
 
@@ -64,20 +67,20 @@ fn hear_twice<S: Strangers>(
     nth: u32,
     answer: &mut Answer,
 ) -> End {
-    refuse(alloc, nth);
+    refuse_nth_request(alloc, nth);
     let heard = node.hear(alloc, strangers, CONN, octets, answer);
-    let refused = was_refused(alloc);
+    let refused = was_request_refused(alloc);
     if heard.is_err() {
         let same = is_empty(node);
         let again = node.hear(alloc, strangers, CONN, octets, answer);
-        return repeated(refused, same && is_taken(node, &again, answer));
+        return end_of_repeated_call(refused, same && is_taken(node, &again, answer));
     }
     let right = is_taken(node, &heard, answer);
     // Where the look-up of connections can't grow, the answer is the same.
     if refused {
-        repeated(refused, right)
+        end_of_repeated_call(refused, right)
     } else {
-        answered(refused, right)
+        end_of_answered_call(refused, right)
     }
 }
 
@@ -117,7 +120,7 @@ struct Calling<'a> {
 }
 
 impl<R: Abort + AllocGlobal> Subject<R> for Calling<'_> {
-    fn end(&self, rt: &R, nth: u32) -> End {
+    fn end_when_refused(&self, rt: &R, nth: u32) -> End {
         let mut node = called(rt);
         let template = config(rt, b"a.example", b"c.example", 4);
         let permits = Permits { template };
@@ -135,7 +138,7 @@ struct Alike<'a> {
 }
 
 impl<R: Abort + AllocGlobal> Subject<R> for Alike<'_> {
-    fn end(&self, rt: &R, nth: u32) -> End {
+    fn end_when_refused(&self, rt: &R, nth: u32) -> End {
         let mut node = called(rt);
         let open = Open::new(config(rt, b"a.example", b"c.example", 4), 1);
         let end = hear(rt.alloc(), &mut node, &open, self.octets, nth);

@@ -1,7 +1,10 @@
 //! Lists of happenings. A twin, of which no request is refused, goes through the same.
 use crate::each::each;
 use crate::scripts::{SCRIPTS, list_of, world};
-use dm_refusal::{End, Subject, answered, refuse, repeated, was_refused, worse};
+use dm_refusal::{
+    End, Subject, end_of_answered_call, end_of_repeated_call, refuse_nth_request,
+    was_request_refused, worse_end,
+};
 use dm_world::{Effect, Happening, Side, World, WorldFault};
 use std::alloc::Global;
 use std::process::Abort;
@@ -43,15 +46,15 @@ fn apply(
     happening: &Happening,
     nth: u32,
 ) -> End {
-    refuse(alloc, nth);
+    refuse_nth_request(alloc, nth);
     let first = world.apply(alloc, happening);
-    let refused = was_refused(alloc);
+    let refused = was_request_refused(alloc);
     if first == Err(WorldFault::NoMemory) {
         let same = is_same(world, twin);
-        repeated(refused, same && apply_both(alloc, world, twin, happening))
+        end_of_repeated_call(refused, same && apply_both(alloc, world, twin, happening))
     } else {
         let second = twin.apply(alloc, happening);
-        answered(
+        end_of_answered_call(
             refused,
             is_same_answer(first, second) && is_same(world, twin),
         )
@@ -70,7 +73,7 @@ fn apply_all(
     let mut end = End::Whole;
     for (at, happening) in list.iter().enumerate() {
         let nth = if at == place { nth } else { 0 };
-        end = worse(end, apply(alloc, world, twin, happening, nth));
+        end = worse_end(end, apply(alloc, world, twin, happening, nth));
     }
     end
 }
@@ -94,7 +97,7 @@ fn end_beside(
 }
 
 impl<R: Abort + AllocGlobal> Subject<R> for Applying<'_> {
-    fn end(&self, rt: &R, nth: u32) -> End {
+    fn end_when_refused(&self, rt: &R, nth: u32) -> End {
         let mut one = world(rt, self.0);
         let end = end_beside(rt, &mut one, self, nth);
         drop(one);
@@ -112,16 +115,16 @@ fn go_on(alloc: Global, world: &mut World, twin: &mut World, rest: &[Happening])
 
 /// The list by one `run` with the nth request refused, and then what is left of it. The twin has memory.
 fn run(alloc: Global, world: &mut World, twin: &mut World, list: &[Happening], nth: u32) -> End {
-    refuse(alloc, nth);
+    refuse_nth_request(alloc, nth);
     let (count, fault) = world.run(alloc, list);
-    let refused = was_refused(alloc);
+    let refused = was_request_refused(alloc);
     let Some((front, rest)) = list.split_at_checked(count) else {
         return End::Fault;
     };
     let is_told = twin.run(alloc, front) == (count, None) && go_on(alloc, world, twin, rest);
     match fault {
-        None => answered(refused, is_told && rest.is_empty()),
-        Some(WorldFault::NoMemory) => repeated(refused, is_told && !rest.is_empty()),
+        None => end_of_answered_call(refused, is_told && rest.is_empty()),
+        Some(WorldFault::NoMemory) => end_of_repeated_call(refused, is_told && !rest.is_empty()),
         Some(_) => End::Fault,
     }
 }
@@ -144,7 +147,7 @@ fn run_beside(
 }
 
 impl<R: Abort + AllocGlobal> Subject<R> for Running<'_> {
-    fn end(&self, rt: &R, nth: u32) -> End {
+    fn end_when_refused(&self, rt: &R, nth: u32) -> End {
         let mut one = world(rt, self.0);
         let end = run_beside(rt, &mut one, self, nth);
         drop(one);

@@ -1,7 +1,7 @@
 //! What is told of times, ends and messages that were seen.
 use dm_capture::{Resolution, Time};
 use dm_flows::{Address, Endpoint};
-use dm_trace::{Clock, Seen, put_endpoint, put_front, put_json_front, put_time};
+use dm_trace::{Clock, Seen, put_endpoint, put_seen, put_seen_members, put_time_or_dash};
 use dm_view::JsonText;
 use std::alloc::{AllocError, Global};
 use std::process::Abort;
@@ -38,7 +38,7 @@ pub fn end_of_6(bits: u128, port: u16) -> Endpoint {
 
 fn said_time(alloc: Global, clock: Clock, time: Option<Time>) -> Result<String, AllocError> {
     let mut text = String::new(alloc);
-    put_time(&mut text, clock, time)?;
+    put_time_or_dash(&mut text, clock, time)?;
     Ok(text)
 }
 
@@ -50,7 +50,7 @@ fn said_end(alloc: Global, end: Endpoint) -> Result<String, AllocError> {
 
 fn said_front(alloc: Global, clock: Clock, seen: &Seen) -> Result<String, AllocError> {
     let mut text = String::new(alloc);
-    put_front(&mut text, clock, seen)?;
+    put_seen(&mut text, clock, seen)?;
     Ok(text)
 }
 
@@ -59,9 +59,9 @@ fn said_json(alloc: Global, clock: Clock, seen: &Seen) -> Result<String, AllocEr
     let mut room = String::new(alloc);
     let mut text = String::new(alloc);
     json.begin_object()?;
-    put_json_front(&mut json, &mut room, clock, seen)?;
+    put_seen_members(&mut json, &mut room, clock, seen)?;
     json.end_object()?;
-    json.put_line(&mut text)?;
+    json.put_line_into(&mut text)?;
     Ok(text)
 }
 

@@ -1,6 +1,6 @@
 //! The dictionary of the tests, and what is said of lines under it.
 use dm_dict::Dictionary;
-use dm_view_lines::{Task, lines_text, say_lines, say_stream, stream_text};
+use dm_view_lines::{Task, lines_report, say_lines, say_stream, stream_report};
 use std::alloc::Global;
 use std::io::BufReader;
 use std::process::Abort;
@@ -89,7 +89,7 @@ fn says(
     input: &str,
     want: &str,
 ) -> Option<bool> {
-    match lines_text(alloc, dictionary, task, input.as_bytes()) {
+    match lines_report(alloc, dictionary, task, input.as_bytes()) {
         Ok((text, good)) => {
             let same = text.as_slice() == want.as_bytes();
             drop(text);
@@ -123,7 +123,7 @@ fn says_stream(
     input: &str,
     want: &str,
 ) -> Option<bool> {
-    match stream_text(alloc, dictionary, task, input.as_bytes()) {
+    match stream_report(alloc, dictionary, task, input.as_bytes()) {
         Ok((text, good)) => {
             let same = text.as_slice() == want.as_bytes();
             drop(text);

@@ -2,7 +2,7 @@
 //! matters at each place.
 use crate::dictionary::dictionary;
 use dm_dict::Dictionary;
-use dm_view_lines::{Task, lines_text};
+use dm_view_lines::{Task, lines_report};
 use std::alloc::{AllocError, Global};
 
 /// How many octets stand in a text beside the one that matters.
@@ -86,7 +86,7 @@ fn is_said(
     line: &str,
     want: &str,
 ) -> Result<bool, AllocError> {
-    match lines_text(alloc, dictionary, task, line.as_bytes()) {
+    match lines_report(alloc, dictionary, task, line.as_bytes()) {
         Ok((text, _)) => {
             let same = text.as_slice() == want.as_bytes();
             drop(text);

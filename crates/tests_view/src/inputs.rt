@@ -19,7 +19,7 @@ fn readers_end_their_lines(rt: HostRuntime) {
         octets.as_slice() == b"a\nb\n\nc\n\r\n".as_slice(),
         "{count} octets"
     );
-    assert!(rt; inputs.at() == 5, "not all were read");
+    assert!(rt; inputs.ended_reader_count() == 5, "not all were read");
     drop(octets);
     drop(inputs);
 }
@@ -100,7 +100,7 @@ fn said(alloc: Global, dictionary: &Dictionary, row: Row, size: usize) -> Option
     let mut text = Vec::new(alloc);
     let end = end_of(say(alloc, dictionary, way, &mut reader, &mut text));
     let same = text.as_slice() == want.as_bytes();
-    let at = reader.get_ref().at();
+    let at = reader.get_ref().ended_reader_count();
     drop(text);
     drop(reader);
     if same { Some((end, at)) } else { None }

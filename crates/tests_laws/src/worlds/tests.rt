@@ -172,7 +172,7 @@ mod comes_up_in_four_steps {
     }
 }
 
-mod quiet_is_shared {
+mod quiet_peers_hold_the_same {
     use super::*;
 
     #[test]
@@ -181,7 +181,7 @@ mod quiet_is_shared {
     }
 }
 
-mod quiet_is_joined {
+mod quiet_peers_are_closed_or_joined {
     use super::*;
 
     #[test]
@@ -213,7 +213,7 @@ mod no_state_is_a_trap {
     }
 
     #[test]
-    fn each_world_can_open(rt: HostRuntime) {
+    fn each_world_can_restart_and_open(rt: HostRuntime) {
         assert_eq!(rt; run_all(&rt, &NO_TRAP), found(2_196, 0));
     }
 }

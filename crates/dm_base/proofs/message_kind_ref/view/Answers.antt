@@ -13,6 +13,6 @@ pub returns-in-Good-clause-found : goal.returns-in-Good-clause-found
 returns-in-Good-clause-found c = λ l spelled.
     let listed = c.spelled_avps_are_members.ensures l spelled in
     good_kind c.args.dictionary.now
-    (record { header = c.args.message.now.header; avps = l }) c.borrowed_kind.result c.args.message.now.rest.now
+    (record { header = c.args.message.now.header; avps = l }) c.kind_with_borrowed_parts.result c.args.message.now.rest.now
     c.in-Some.command (sym c.of.ensures ∙ c.in-Some.is) (sym (c.judge.ensures.verdict l spelled) ∙ ap shown c.in-Good.is)
-    (c.borrowed_kind.ensures.told l listed) c.borrowed_kind.ensures.lies listed
+    (c.kind_with_borrowed_parts.ensures.told l listed) c.kind_with_borrowed_parts.ensures.lies listed

@@ -8,4 +8,4 @@ pub returns-clause-put : goal.returns-clause-put
 returns-clause-put c =
     let n = c.args.node.now in
     list_behind (result_avp success) (avp origin_host n.host) (avp origin_realm n.realm) (state_avps c.args.state)
-    c.args.out.now.items _ _ c.in_ok-push_success_and_origin.ensures.put c.in_ok-push_state_id_octets.ensures.put
+    c.args.out.now.items _ _ c.in_ok-push_success_and_origin.ensures.put c.in_ok-push_origin_state_id_octets.ensures.put

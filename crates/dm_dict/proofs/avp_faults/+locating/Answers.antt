@@ -71,8 +71,8 @@ add_each_avp_faults-loop-avp-preserved t c = λ all h.
       behind,
       omega (arith, longer, within, less),
       c.in_ok-nth.ensures.counted p fits numbered,
-      located_next path c.args.depth avps rule p m k a c.in_ok-nth.nth c.allows-allowed.result _ _ _ is
-          (c.allows-allowed.ensures ∙ ap allows c.look_up_by_marks-place.ensures.entry)
+      located_next path c.args.depth avps rule p m k a c.in_ok-nth.nth c.has_entry_allowing_avps-allowed.result _ _ _ is
+          (c.has_entry_allowing_avps-allowed.ensures ∙ ap allows c.look_up_avp_by_marks-place.ensures.entry)
           (c.in_ok-nth.ensures.nth p fits numbered) c.in_ok-add_avp_faults.ensures so_far,
     )
 

@@ -36,7 +36,7 @@ judge_list_from-loop-avp-preserved t c =
     let rule = c.args.rule.entries.now in
     let a = avp_of c.in-Some.avp in
     let G = group_faults c.args.depth avps in
-    let allowed = c.allows-allowed.ensures ∙ ap allows c.look_up_by_marks-place.ensures.entry in
+    let allowed = c.has_entry_allowing_avps-allowed.ensures ∙ ap allows c.look_up_avp_by_marks-place.ensures.entry in
     let good = looked_up G _ _ a _ _ allowed c.in-Good.ensures.fault in
     λ all h.
     let (m, listed, before) = c.loop-avp.invariant all h in
@@ -44,7 +44,7 @@ judge_list_from-loop-avp-preserved t c =
       k,
       behind,
       one_passed c.args.depth avps rule all m k a _ _ _ before is good c.count_at_entry.ensures.size
-          c.count_at_entry.ensures.counted c.look_up_by_marks-place.ensures.counts,
+          c.count_at_entry.ensures.counted c.look_up_avp_by_marks-place.ensures.counts,
     )
 
 pub judge_list_on_stack-judge_list_from-requires : goal.judge_list_on_stack-judge_list_from-requires
@@ -60,7 +60,7 @@ judge_list_on_stack-judge_list_from-requires t c = (
           l,
           h,
           none_passed c.args.depth c.args.dictionary.now.tables.avps.items c.args.rule.entries.now l _
-              c.counters-counts.ensures,
+              c.zero_counters-counts.ensures,
         ),
       ),
     ),

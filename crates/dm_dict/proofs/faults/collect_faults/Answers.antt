@@ -8,9 +8,9 @@ use Rattle.dm_dict.proofs.faults.collect_faults.Goals as goal
 
 pub returns-clause-all : goal.returns-clause-all
 returns-clause-all c =
-    handed_ok c.find_faults-done.result c.find_faults-done.new.findings.faults _ _ c.and.ensures
-    (under_done c.find_faults-done.result
+    handed_ok c.add_message_faults_if_bad-done.result c.add_message_faults_if_bad-done.new.findings.faults _ _ c.and.ensures
+    (under_done c.add_message_faults_if_bad-done.result
     (λ all l lists. found_without_paths (all_told c.new-findings.result.faults.items) _ _
     (ap all_told c.new-findings.ensures.faults) (all l lists)
     ∙ located_are_faults (defined c.args.dictionary.now.tables) (record { header = c.args.header.now; avps = l }))
-    c.find_faults-done.ensures.all)
+    c.add_message_faults_if_bad-done.ensures.all)

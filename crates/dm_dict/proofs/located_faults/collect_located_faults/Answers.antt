@@ -7,8 +7,8 @@ use Rattle.dm_dict.proofs.located_faults.collect_located_faults.Goals as goal
 
 pub returns-clause-all : goal.returns-clause-all
 returns-clause-all c =
-    handed_ok c.find_faults-done.result c.find_faults-done.new.findings.located _ _ c.and.ensures
-    (under_done c.find_faults-done.result
+    handed_ok c.add_message_faults_if_bad-done.result c.add_message_faults_if_bad-done.new.findings.located _ _ c.and.ensures
+    (under_done c.add_message_faults_if_bad-done.result
     (λ all l lists. found_at_top (path_of c.top-top.result) (map told_at c.new-findings.result.located.items) _ _
     c.top-top.ensures.none (ap (map told_at) c.new-findings.ensures.located) (all l lists))
-    c.find_faults-done.ensures.all)
+    c.add_message_faults_if_bad-done.ensures.all)

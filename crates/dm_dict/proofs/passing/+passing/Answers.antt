@@ -10,23 +10,23 @@ use Rattle.dm_dict.proofs.Chains.{looked_up}
 use Rattle.dm_dict.proofs.GoodBut.{none_passed, one_passed, all_passed}
 use Rattle.dm_dict.proofs.passing.+passing.Goals as goal
 
-pub passes_defined-returns-else-passes_group : goal.passes_defined-returns-else-passes_group
-passes_defined-returns-else-passes_group t c =
+pub passes_defined_avp-returns-else-passes_group : goal.passes_defined_avp-returns-else-passes_group
+passes_defined_avp-returns-else-passes_group t c =
     let groups = group_faults c.args.depth c.args.dictionary.now.tables.avps.items in
-    c.is_failed_avp_at.ensures groups (avp_of c.args.avp) c.requires.def
+    c.has_failed_avp_code_at.ensures groups (avp_of c.args.avp) c.requires.def
 
-pub passes_defined-returns-else-passes_enumerated : goal.passes_defined-returns-else-passes_enumerated
-passes_defined-returns-else-passes_enumerated t c =
+pub passes_defined_avp-returns-else-passes_enumerated : goal.passes_defined_avp-returns-else-passes_enumerated
+passes_defined_avp-returns-else-passes_enumerated t c =
     let groups = group_faults c.args.depth c.args.dictionary.now.tables.avps.items in
-    c.is_failed_avp_at-else-passes_enumerated.ensures groups (avp_of c.args.avp) c.requires.def
+    c.has_failed_avp_code_at-else-passes_enumerated.ensures groups (avp_of c.args.avp) c.requires.def
 
-pub passes_defined-returns-else-passes_data : goal.passes_defined-returns-else-passes_data
-passes_defined-returns-else-passes_data t c =
+pub passes_defined_avp-returns-else-passes_data : goal.passes_defined_avp-returns-else-passes_data
+passes_defined_avp-returns-else-passes_data t c =
     let groups = group_faults c.args.depth c.args.dictionary.now.tables.avps.items in
-    c.is_failed_avp_at-else-passes_data.ensures groups (avp_of c.args.avp) c.requires.def
+    c.has_failed_avp_code_at-else-passes_data.ensures groups (avp_of c.args.avp) c.requires.def
 
-pub passes_defined-passes_group-requires : goal.passes_defined-passes_group-requires
-passes_defined-passes_group-requires t c =
+pub passes_defined_avp-passes_group-requires : goal.passes_defined_avp-passes_group-requires
+passes_defined_avp-passes_group-requires t c =
     let fit = c.requires.fit in
     let def = c.def_at.result.now in
     let code = c.args.avp.code in
@@ -58,18 +58,18 @@ pass_avp_parts-returns-clause-passed t c = λ yes l m k before is.
       protected = c.args.protected;
       bytes = c.args.bytes.now;
     } in
-    let allowed = ap allows c.look_up_by_marks-place.ensures.entry in
+    let allowed = ap allows c.look_up_avp_by_marks-place.ensures.entry in
     let good = looked_up (group_faults c.args.depth avps) _ _ a _ _ allowed
     (c.passes_avp.ensures c.if-not-passes_avp.false) in
     one_passed c.args.depth avps rule l m k a _ _ _ before is good c.count_at_entry.ensures.size
     c.count_at_entry.ensures.counted
-    c.look_up_by_marks-place.ensures.counts
+    c.look_up_avp_by_marks-place.ensures.counts
 
-pub pass_octets_with_rows-loop-avp-init : goal.pass_octets_with_rows-loop-avp-init
-pass_octets_with_rows-loop-avp-init t c = ((λ m. m, λ m h. h, λ l m good. good), omega arith)
+pub pass_spelled_avps_with_rows-loop-avp-init : goal.pass_spelled_avps_with_rows-loop-avp-init
+pass_spelled_avps_with_rows-loop-avp-init t c = ((λ m. m, λ m h. h, λ l m good. good), omega arith)
 
-pub pass_octets_with_rows-loop-avp-preserved : goal.pass_octets_with_rows-loop-avp-preserved
-pass_octets_with_rows-loop-avp-preserved t c =
+pub pass_spelled_avps_with_rows-loop-avp-preserved : goal.pass_spelled_avps_with_rows-loop-avp-preserved
+pass_spelled_avps_with_rows-loop-avp-preserved t c =
     let avps = c.args.dictionary.now.tables.avps.items in
     let rule = c.args.rule.entries.now in
     let s = c.loop-avp.left.now in
@@ -77,7 +77,7 @@ pass_octets_with_rows-loop-avp-preserved t c =
     let a = avp_of c.in-Some.avp in
     let stands = c.in-Some-row_by_seat.ensures in
     let good = looked_up (group_faults c.args.depth avps) _ _ a _ _ stands.allowed
-    (c.passes_defined.ensures c.if-not-passes_defined.false) in
+    (c.passes_defined_avp.ensures c.if-not-passes_defined_avp.false) in
     let ((all, spelled, passed), within) = c.loop-avp.invariant in (
       (
         λ m. all (a ∷ m),
@@ -90,8 +90,8 @@ pass_octets_with_rows-loop-avp-preserved t c =
       omega arith,
     )
 
-pub pass_octets_without_row-returns-then-pass_undefined_avp-clause-passed : goal.pass_octets_without_row-returns-then-pass_undefined_avp-clause-passed
-pass_octets_without_row-returns-then-pass_undefined_avp-clause-passed t c =
+pub pass_spelled_avp_without_row-returns-then-pass_undefined_avp-clause-passed : goal.pass_spelled_avp_without_row-returns-then-pass_undefined_avp-clause-passed
+pass_spelled_avp_without_row-returns-then-pass_undefined_avp-clause-passed t c =
     let s = c.args.octets.now in
     let n = c.in-Some.size in
     let a = avp_of c.in-Some.avp in (
@@ -101,8 +101,8 @@ pass_octets_without_row-returns-then-pass_undefined_avp-clause-passed t c =
           (a ∷ m) m before refl,
     )
 
-pub pass_octets_without_row-returns-then-pass_looked_up_avp-clause-passed : goal.pass_octets_without_row-returns-then-pass_looked_up_avp-clause-passed
-pass_octets_without_row-returns-then-pass_looked_up_avp-clause-passed t c =
+pub pass_spelled_avp_without_row-returns-then-pass_looked_up_avp-clause-passed : goal.pass_spelled_avp_without_row-returns-then-pass_looked_up_avp-clause-passed
+pass_spelled_avp_without_row-returns-then-pass_looked_up_avp-clause-passed t c =
     let s = c.args.octets.now in
     let n = c.in-Some.size in
     let a = avp_of c.in-Some.avp in (
@@ -112,26 +112,26 @@ pass_octets_without_row-returns-then-pass_looked_up_avp-clause-passed t c =
           (rw (c.pass_undefined_avp.ensures.same c.if-pass_undefined_avp.false) before) refl,
     )
 
-pub pass_octets-loop-behind-init : goal.pass_octets-loop-behind-init
-pass_octets-loop-behind-init t c = (
+pub pass_spelled_avps-loop-behind-init : goal.pass_spelled_avps-loop-behind-init
+pass_spelled_avps-loop-behind-init t c = (
   λ m. m,
   λ m h. h,
   λ m. none_passed c.args.depth c.args.dictionary.now.tables.avps.items c.args.rule.entries.now m _ c.requires.zero,
 )
 
-pub pass_octets-loop-behind-preserved : goal.pass_octets-loop-behind-preserved
-pass_octets-loop-behind-preserved t c =
+pub pass_spelled_avps-loop-behind-preserved : goal.pass_spelled_avps-loop-behind-preserved
+pass_spelled_avps-loop-behind-preserved t c =
     let (all, spelled, before) = c.loop-behind.invariant in
     let (rows, behind, passed) = c.in-Some.ensures.passed in
-    let (other, rest, more) = c.in-Some-pass_octets_without_row.ensures.passed in (
+    let (other, rest, more) = c.in-Some-pass_spelled_avp_without_row.ensures.passed in (
       λ m. all (rows (other m)),
       λ m h. spelled (rows (other m)) (behind (other m) (rest m h)),
       λ m. more (all (rows (other m))) m
           (passed (all (rows (other m))) (other m) (before (rows (other m)))),
     )
 
-pub pass_octets-returns-then-is_empty : goal.pass_octets-returns-then-is_empty
-pass_octets-returns-then-is_empty t c = λ done.
+pub pass_spelled_avps-returns-then-is_empty : goal.pass_spelled_avps-returns-then-is_empty
+pass_spelled_avps-returns-then-is_empty t c = λ done.
     let none = nil_from_length c.in-Some.behind.now (eqb-true _ 0 (sym c.is_empty.ensures ∙ c.if-is_empty.true)) in
     let (all, spelled, before) = c.loop-behind.invariant in
     let (rows, behind, passed) = c.in-Some.ensures.passed in

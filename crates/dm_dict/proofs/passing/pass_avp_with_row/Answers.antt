@@ -11,6 +11,6 @@ returns-clause-passed c = λ yes rule stands l m k before is.
     let avps = c.args.dictionary.now.tables.avps.items in
     let a = avp_of c.args.avp in
     let good = looked_up (group_faults c.args.depth avps) _ _ a _ _ stands.allowed
-    (c.passes_defined.ensures c.if-not-passes_defined.false) in
+    (c.passes_defined_avp.ensures c.if-not-passes_defined_avp.false) in
     one_passed c.args.depth avps rule l m k a _ _ (Some c.args.at) before is good c.count_at_entry.ensures.size
     c.count_at_entry.ensures.counted stands.counts

@@ -14,8 +14,8 @@ returns-clause-passed c = λ yes depth l m k before is.
     let a = avp_of c.args.avp in
     let coded = is_coded c.args.avp.code c.args.avp.vendor in
     let none : definition avps a ≡ None =
-    sym (ap (option_and_then (slice_get avps)) (c.is_unmarked.ensures.none c.if-not-is_unmarked.false c.args.avp.vendor)
+    sym (ap (option_and_then (slice_get avps)) (c.is_code_unmarked.ensures.none c.if-not-is_code_unmarked.false c.args.avp.vendor)
     ∙ found coded avps) in
     one_passed depth avps c.args.rule.entries.now l m k a _ _ _ before is
     (rw (none, c.if-avp.false) refl) c.count_at_entry.ensures.size c.count_at_entry.ensures.counted
-    c.place_and_entry-any.ensures.counts
+    c.pair_place_with_entry-any.ensures.counts

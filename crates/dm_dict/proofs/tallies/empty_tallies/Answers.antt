@@ -10,8 +10,8 @@ loop-entry-preserved c =
       search rules,
       rw c.in_ok-push.ensures.items
           (one_more entries c.loop-entry.tallies.items c.loop-entry.entry-index c.entry-item.result
-          c.at_start.result size
-          c.loop-entry-test.true c.entry-item.is c.at_start.ensures old),
+          c.before_counting.result size
+          c.loop-entry-test.true c.entry-item.is c.before_counting.ensures old),
     )
 
 pub returns-clause-tallied : goal.returns-clause-tallied

@@ -7,9 +7,9 @@ pub returns : goal.returns
 returns c =
     let opening = codes " > ::= < Diameter Header:" in
     let head = then_put c.args.text.now.items _ _ opening
-    (spaced_number c.args.command.now.code) c.in_ok-push_piece.ensures c.in_ok-push_spaced_number.ensures in
+    (spaced_number c.args.command.now.code) c.in_ok-push_piece.ensures c.in_ok-push_space_and_number.ensures in
     let flagged = then_put c.args.text.now.items _ _ (opening ++ spaced_number c.args.command.now.code)
     (flags_text c.args.command.now) head c.in_ok-push_command_flags.ensures in
     last_put _ c.args.text.now.items _ _
     (opening ++ spaced_number c.args.command.now.code ++ flags_text c.args.command.now)
-    (spaced_number c.args.command.now.application) flagged c.push_spaced_number-2.ensures
+    (spaced_number c.args.command.now.application) flagged c.push_space_and_number-2.ensures

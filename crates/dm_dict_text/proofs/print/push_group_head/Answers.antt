@@ -6,6 +6,6 @@ use Rattle.dm_dict_text.proofs.print.push_group_head.Goals as goal
 pub returns : goal.returns
 returns c =
     let head = then_put c.args.text.now.items _ _ (codes " > ::= < AVP Header:") (spaced_number c.args.avp.now.code)
-    c.in_ok-push_piece.ensures c.in_ok-push_spaced_number.ensures in
+    c.in_ok-push_piece.ensures c.in_ok-push_space_and_number.ensures in
     last_put _ c.args.text.now.items _ _ (codes " > ::= < AVP Header:" ++ spaced_number c.args.avp.now.code)
-    (spaced_option c.args.avp.now.vendor) head c.push_spaced_option.ensures
+    (spaced_option c.args.avp.now.vendor) head c.push_space_and_number_if_some.ensures

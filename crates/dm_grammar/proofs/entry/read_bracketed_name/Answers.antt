@@ -11,9 +11,9 @@ use Rattle.dm_grammar.proofs.entry.read_bracketed_name.Goals as goal
 
 pub returns-in_err-words-clause-tells : goal.returns-in_err-words-clause-tells
 returns-in_err-words-clause-tells c =
-    let form = c.in-Some-bracket_form.form in
+    let form = c.in-Some-form_of_opening_bracket.form in
     let bracket = opened (view_word c.in-Some.open.now) c.args.how (view_words c.in-Some.rest.now) form
-    (sym c.in-Some-bracket_form.ensures) in
+    (sym c.in-Some-form_of_opening_bracket.ensures) in
     let close : steps_from c.args.how.version (name_place form) ≡ by (One c.closing_bracket.result) InRule NoPart =
     rw c.closing_bracket.ensures
     (close_step c.args.how.version form) in
@@ -25,10 +25,10 @@ returns-in_err-words-clause-tells c =
 
 pub returns-clause-tells : goal.returns-clause-tells
 returns-clause-tells c =
-    let form = c.in-Some-bracket_form.form in
+    let form = c.in-Some-form_of_opening_bracket.form in
     let words = c.in_ok-words.words in
     let bracket = opened (view_word c.in-Some.open.now) c.args.how (view_words c.in-Some.rest.now) form
-    (sym c.in-Some-bracket_form.ensures) in
+    (sym c.in-Some-form_of_opening_bracket.ensures) in
     let close : steps_from c.args.how.version (name_place form) ≡ by (One c.closing_bracket.result) InRule NoPart =
     rw c.closing_bracket.ensures
     (close_step c.args.how.version form) in

@@ -18,11 +18,11 @@ returns-in_err-second-clause-tells c = λ w.
     handed_on _ _ c.from_residual-in_err-second.result _ c.from_residual-in_err-second.ensures.1
     (c.in_ok-words.ensures.tells CommandColon CommandCode Coded NoPart CodeIs refl refl refl refl
     ∙ ap (λ r. filled NoPart (view_word words.0) (filled CodeIs (view_word words.1) r))
-    (flags_read c.args.how (view_words c.in_ok-words.rest.now) _ _ _ _ _ _ c.read_flag-request.ensures.flag
-    c.read_flag-request.ensures.rest c.read_flag-proxiable.ensures.flag c.read_flag-proxiable.ensures.rest
-    c.read_flag-error.ensures.flag c.read_flag-error.ensures.rest
-    ∙ ap (λ r. flagged RequestFlag c.read_flag-request.result.0
-    (flagged ProxiableFlag c.read_flag-proxiable.result.0 (flagged ErrorFlag c.read_flag-error.result.0 r)))
+    (flags_read c.args.how (view_words c.in_ok-words.rest.now) _ _ _ _ _ _ c.read_comma_and_flag-request.ensures.flag
+    c.read_comma_and_flag-request.ensures.rest c.read_comma_and_flag-proxiable.ensures.flag c.read_comma_and_flag-proxiable.ensures.rest
+    c.read_comma_and_flag-error.ensures.flag c.read_comma_and_flag-error.ensures.rest
+    ∙ ap (λ r. flagged RequestFlag c.read_comma_and_flag-request.result.0
+    (flagged ProxiableFlag c.read_comma_and_flag-proxiable.result.0 (flagged ErrorFlag c.read_comma_and_flag-error.result.0 r)))
     c.in_err-second.ensures.tells))
 
 pub returns-clause-tells : goal.returns-clause-tells
@@ -32,12 +32,12 @@ returns-clause-tells c = λ w.
     (c.in_ok-words.ensures.tells CommandColon CommandCode Coded NoPart CodeIs refl refl refl refl
     ∙ (nothing_told (view_word words.0) _
     ∙ ap (filled CodeIs (view_word words.1))
-    (flags_read c.args.how (view_words c.in_ok-words.rest.now) _ _ _ _ _ _ c.read_flag-request.ensures.flag
-    c.read_flag-request.ensures.rest c.read_flag-proxiable.ensures.flag c.read_flag-proxiable.ensures.rest
-    c.read_flag-error.ensures.flag c.read_flag-error.ensures.rest
-    ∙ ap (λ r. flagged RequestFlag c.read_flag-request.result.0
-    (flagged ProxiableFlag c.read_flag-proxiable.result.0 (flagged ErrorFlag c.read_flag-error.result.0 r)))
+    (flags_read c.args.how (view_words c.in_ok-words.rest.now) _ _ _ _ _ _ c.read_comma_and_flag-request.ensures.flag
+    c.read_comma_and_flag-request.ensures.rest c.read_comma_and_flag-proxiable.ensures.flag c.read_comma_and_flag-proxiable.ensures.rest
+    c.read_comma_and_flag-error.ensures.flag c.read_comma_and_flag-error.ensures.rest
+    ∙ ap (λ r. flagged RequestFlag c.read_comma_and_flag-request.result.0
+    (flagged ProxiableFlag c.read_comma_and_flag-proxiable.result.0 (flagged ErrorFlag c.read_comma_and_flag-error.result.0 r)))
     c.in_ok-second.ensures.tells)))
-    ∙ command_told w (view_word words.1) c.read_flag-request.result.0 c.read_flag-proxiable.result.0
-    c.read_flag-error.result.0
+    ∙ command_told w (view_word words.1) c.read_comma_and_flag-request.result.0 c.read_comma_and_flag-proxiable.result.0
+    c.read_comma_and_flag-error.result.0
     (view_option c.in_ok-second.second) (collect c.args.how InRule (view_words c.in_ok-second.rest.now))

@@ -14,8 +14,8 @@ where_err (Err e) f p = f e p
 
 pub returns-clause-items : goal.returns-clause-items
 returns-clause-items c =
-    where_ok c.read_text_items.result (λ items. told_written c.args.text.now (map view_item items.items))
-    c.read_text_items.ensures.items
+    where_ok c.read_items_by_steps.result (λ items. told_written c.args.text.now (map view_item items.items))
+    c.read_items_by_steps.ensures.items
 
 pub returns-clause-fault : goal.returns-clause-fault
-returns-clause-fault c = where_err c.read_text_items.result (told_fault c.args.text.now) c.read_text_items.ensures.fault
+returns-clause-fault c = where_err c.read_items_by_steps.result (told_fault c.args.text.now) c.read_items_by_steps.ensures.fault

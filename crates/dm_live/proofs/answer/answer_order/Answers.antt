@@ -1,10 +1,10 @@
-use Rattle.std.proofs.Common.{refl}
-use Rattle.dm_live.proofs.Turns.{answered}
+use Rattle.dm_live.specs.Meetings.{meeting_of}
+use Rattle.dm_node.specs.Answers.{asks_of}
+use Rattle.dm_live.proofs.Turns.{taken_so}
 use Rattle.dm_live.proofs.answer.answer_order.Goals as goal
 
-pub returns : goal.returns
-returns c =
-    let own = c.in_ok-who.ensures in
-    let heard = c.in_ok-last.ensures in
-    answered _ _ _ _ _ _ _ _ _ _ _ _ _ _ _ own.1 heard.1 heard.2 refl own.2 heard.3
-    c.put_answer_states.ensures
+pub returns-in-Ok : goal.returns-in-Ok
+returns-in-Ok c =
+    taken_so c.put_order_outcome.result c.args.form c.args.order (meeting_of c.args.node.now)
+    (meeting_of c.order.new.self) (asks_of c.order.new.answer) _ _ c.in-Ok.ensures.taken c.in-Ok.ensures.met
+    c.put_order_outcome.ensures.who c.put_order_outcome.ensures.text

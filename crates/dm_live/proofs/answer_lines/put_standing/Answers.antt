@@ -7,8 +7,8 @@ unfolding standing_words
 returns c =
     rw (
       c.in_ok-push_str-2.ensures.bytes,
-      c.in_ok-put_held-2.ensures,
-      c.in_ok-put_held.ensures,
+      c.in_ok-put_held_connection-2.ensures,
+      c.in_ok-put_held_connection.ensures,
       c.in_ok-push_str.ensures.bytes,
       c.name.ensures,
       c.state.ensures.value,

@@ -11,4 +11,4 @@ pub returns-then-branch-clause-given : goal.returns-then-branch-clause-given
 returns-then-branch-clause-given g c =
     line_or_end _ _ _ _ _
     (read_through _ _ _ _ _ _ c.piece.invariant c.in_ok-extend_line.ensures.taken c.if-branch.true)
-    c.strip_unless_empty.ensures.none c.strip_unless_empty.ensures.some c.strip_unless_empty.ensures.line
+    c.remove_end_unless_empty.ensures.none c.remove_end_unless_empty.ensures.some c.remove_end_unless_empty.ensures.line

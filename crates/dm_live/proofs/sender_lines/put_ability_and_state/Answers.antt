@@ -7,5 +7,5 @@ pub returns : goal.returns
 unfolding ability_lines
 returns c =
     λ l tells.
-    three _ _ _ _ _ _ _ _ _ (c.in_ok-put_applications.ensures l tells) (c.in_ok-put_vendors.ensures l tells)
+    three _ _ _ _ _ _ _ _ _ (c.in_ok-put_applications.ensures l tells) (c.in_ok-put_supported_vendors.ensures l tells)
     (ap (λ n. number_line_if_any (codes "origin-state") n) (c.state_id.ensures l tells)) c.put_number_line_if_any.ensures

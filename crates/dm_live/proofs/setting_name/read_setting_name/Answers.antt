@@ -11,8 +11,8 @@ pub returns-clause-told : goal.returns-clause-told
 returns-clause-told c =
     let Told : SettingName → Type 0 = λ name. c.args.word.now ≡ setting_word name in
     or-holds Told _ _ _ c.or-2.ensures
-    (or-holds Told _ _ _ c.or.ensures c.read_node_setting.ensures.told c.read_ability_setting.ensures.told)
-    c.read_peer_setting.ensures.told
+    (or-holds Told _ _ _ c.or.ensures c.read_node_setting_name.ensures.told c.read_ability_setting_name.ensures.told)
+    c.read_peer_setting_name.ensures.told
 
 -- a name of one of the three lists
 one_of : (word : List ℕ) → (IsNoneOf word (Host ∷ Realm ∷ Address ∷ Vendor ∷ Product ∷ [])
@@ -37,6 +37,6 @@ one_of word ((own, said), peers) Max = peers.1.1.1.1.0
 pub returns-clause-none : goal.returns-clause-none
 returns-clause-none c =
     none-then _ _ _
-    (or-none _ _ _ _ _ c.or-2.ensures (or-none _ _ _ _ _ c.or.ensures c.read_node_setting.ensures.none
-    c.read_ability_setting.ensures.none)
-    c.read_peer_setting.ensures.none) (one_of c.args.word.now)
+    (or-none _ _ _ _ _ c.or-2.ensures (or-none _ _ _ _ _ c.or.ensures c.read_node_setting_name.ensures.none
+    c.read_ability_setting_name.ensures.none)
+    c.read_peer_setting_name.ensures.none) (one_of c.args.word.now)

@@ -14,9 +14,9 @@ returns-clause-owners c =
     let f = owners_of c.args.slots.now in
     let same = c.disown-2.ensures.intakes ∙ c.disown.ensures.intakes in
     let gone = c.disown-2.ensures.owners ∙ ap (disowned_by before.accepted) c.disown.ensures.owners in
-    let first = c.own.ensures.owners
+    let first = c.set_owner.ensures.owners
     (λ e is. ap (is_there e.0) same ∙ c.requires.there e (has_initiated after e is)) in
-    let second = c.own-2.ensures.owners
-    (λ e is. ap (is_there e.0) (c.own.ensures.intakes ∙ same) ∙ c.requires.there e (has_accepted after e is)) in
+    let second = c.set_owner-2.ensures.owners
+    (λ e is. ap (is_there e.0) (c.set_owner.ensures.intakes ∙ same) ∙ c.requires.there e (has_accepted after e is)) in
     ap (λ g. g d.0) (second ∙ ap (owned_by after.accepted n) (first ∙ ap (owned_by after.initiated n) gone))
     ∙ change_at before after n f d

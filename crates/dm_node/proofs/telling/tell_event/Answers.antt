@@ -8,60 +8,60 @@ use Rattle.dm_node.proofs.Ruling.{event_wants, done_goes, failed_goes}
 use Rattle.dm_node.proofs.Reowned.{held_looked, reowned_told}
 use Rattle.dm_node.proofs.telling.tell_event.Goals as goal
 
-pub returns-in-Ok-tell_neighbours-clause-met : goal.returns-in-Ok-tell_neighbours-clause-met
-returns-in-Ok-tell_neighbours-clause-met g c =
+pub returns-in-Ok-tell_neighbour_or_handle_stranger-clause-met : goal.returns-in-Ok-tell_neighbour_or_handle_stranger-clause-met
+returns-in-Ok-tell_neighbour_or_handle_stranger-clause-met g c =
     let policy = g.S.Strangers.policy c.args.strangers.now in
     let ps = c.args.neighbours.now in
     let looked = state_looked policy ps c.args.event c.in-Ok.who _
     c.neighbours_are_sound.ensures.apart c.in-Ok.ensures.concerned c.in-Ok.ensures.nobody
     c.snapshot-before.ensures.state in
-    meets_after policy c.args.event c.args.own.now ps c.tell_neighbours.new.neighbours
-    c.tell_neighbours.new.answer.neighbour c.tell_neighbours.new.answer.actions.items (known_of c.args.known.now)
+    meets_after policy c.args.event c.args.own.now ps c.tell_neighbour_or_handle_stranger.new.neighbours
+    c.tell_neighbour_or_handle_stranger.new.answer.neighbour c.tell_neighbour_or_handle_stranger.new.answer.actions.items (known_of c.args.known.now)
     (known_of c.meet_by_event.new.known) c.snapshot-before.result.state c.requires.calm looked c.requires.places
-    c.in-Ok-tell_neighbours.ensures.told c.meet_by_event.ensures.met c.meet_by_event.ensures.unmet
+    c.in-Ok-tell_neighbour_or_handle_stranger.ensures.told c.meet_by_event.ensures.met c.meet_by_event.ensures.unmet
 
-pub returns-in-Ok-tell_neighbours-clause-places : goal.returns-in-Ok-tell_neighbours-clause-places
-returns-in-Ok-tell_neighbours-clause-places g c =
+pub returns-in-Ok-tell_neighbour_or_handle_stranger-clause-places : goal.returns-in-Ok-tell_neighbour_or_handle_stranger-clause-places
+returns-in-Ok-tell_neighbour_or_handle_stranger-clause-places g c =
     let policy = g.S.Strangers.policy c.args.strangers.now in
     let ps = c.args.neighbours.now in
     let looked = state_looked policy ps c.args.event c.in-Ok.who _
     c.neighbours_are_sound.ensures.apart c.in-Ok.ensures.concerned c.in-Ok.ensures.nobody
     c.snapshot-before.ensures.state in
-    known_told known_after policy c.args.event c.args.own.now ps c.tell_neighbours.new.neighbours
-    c.tell_neighbours.new.answer.neighbour c.tell_neighbours.new.answer.actions.items (known_of c.args.known.now)
-    (known_of c.meet_by_event.new.known) c.requires.calm c.requires.places c.in-Ok-tell_neighbours.ensures.told
-    (meets_after policy c.args.event c.args.own.now ps c.tell_neighbours.new.neighbours
-    c.tell_neighbours.new.answer.neighbour c.tell_neighbours.new.answer.actions.items (known_of c.args.known.now)
+    known_told known_after policy c.args.event c.args.own.now ps c.tell_neighbour_or_handle_stranger.new.neighbours
+    c.tell_neighbour_or_handle_stranger.new.answer.neighbour c.tell_neighbour_or_handle_stranger.new.answer.actions.items (known_of c.args.known.now)
+    (known_of c.meet_by_event.new.known) c.requires.calm c.requires.places c.in-Ok-tell_neighbour_or_handle_stranger.ensures.told
+    (meets_after policy c.args.event c.args.own.now ps c.tell_neighbour_or_handle_stranger.new.neighbours
+    c.tell_neighbour_or_handle_stranger.new.answer.neighbour c.tell_neighbour_or_handle_stranger.new.answer.actions.items (known_of c.args.known.now)
     (known_of c.meet_by_event.new.known) c.snapshot-before.result.state c.requires.calm looked c.requires.places
-    c.in-Ok-tell_neighbours.ensures.told c.meet_by_event.ensures.met c.meet_by_event.ensures.unmet)
+    c.in-Ok-tell_neighbour_or_handle_stranger.ensures.told c.meet_by_event.ensures.met c.meet_by_event.ensures.unmet)
 
-pub returns-in-Err-tell_neighbours-clause-wants : goal.returns-in-Err-tell_neighbours-clause-wants
-returns-in-Err-tell_neighbours-clause-wants g c = λ is.
+pub returns-in-Err-tell_neighbour_or_handle_stranger-clause-wants : goal.returns-in-Err-tell_neighbour_or_handle_stranger-clause-wants
+returns-in-Err-tell_neighbour_or_handle_stranger-clause-wants g c = λ is.
     event_wants c.refusals_go_by_rule.ensures (g.S.Strangers.policy c.args.strangers.now) c.args.neighbours.now
-    c.args.event c.in-Err-tell_neighbours.fault c.neighbours_are_sound.ensures.kept c.requires.calm
-    (same_fault c.in-Err-tell_neighbours.fault _ _ refl is) c.in-Err-tell_neighbours.ensures.because
+    c.args.event c.in-Err-tell_neighbour_or_handle_stranger.fault c.neighbours_are_sound.ensures.kept c.requires.calm
+    (same_fault c.in-Err-tell_neighbour_or_handle_stranger.fault _ _ refl is) c.in-Err-tell_neighbour_or_handle_stranger.ensures.because
 
-pub returns-in-Ok-tell_neighbours-clause-before : goal.returns-in-Ok-tell_neighbours-clause-before
-returns-in-Ok-tell_neighbours-clause-before g c =
+pub returns-in-Ok-tell_neighbour_or_handle_stranger-clause-before : goal.returns-in-Ok-tell_neighbour_or_handle_stranger-clause-before
+returns-in-Ok-tell_neighbour_or_handle_stranger-clause-before g c =
     let policy = g.S.Strangers.policy c.args.strangers.now in
     let ps = c.args.neighbours.now in
     let looked = held_looked policy ps c.args.event c.in-Ok.who _
     c.neighbours_are_sound.ensures.apart c.in-Ok.ensures.concerned c.in-Ok.ensures.nobody
     c.snapshot-before.ensures.held in
-    reowned_told policy c.args.event c.args.own.now ps c.tell_neighbours.new.neighbours
-    c.tell_neighbours.new.answer.neighbour c.tell_neighbours.new.answer.actions.items c.snapshot-before.result.held
-    c.requires.calm looked c.in-Ok-tell_neighbours.ensures.told
+    reowned_told policy c.args.event c.args.own.now ps c.tell_neighbour_or_handle_stranger.new.neighbours
+    c.tell_neighbour_or_handle_stranger.new.answer.neighbour c.tell_neighbour_or_handle_stranger.new.answer.actions.items c.snapshot-before.result.held
+    c.requires.calm looked c.in-Ok-tell_neighbour_or_handle_stranger.ensures.told
 
-pub returns-in-Ok-tell_neighbours-clause-rules : goal.returns-in-Ok-tell_neighbours-clause-rules
-returns-in-Ok-tell_neighbours-clause-rules g c =
+pub returns-in-Ok-tell_neighbour_or_handle_stranger-clause-rules : goal.returns-in-Ok-tell_neighbour_or_handle_stranger-clause-rules
+returns-in-Ok-tell_neighbour_or_handle_stranger-clause-rules g c =
     done_goes (g.S.Strangers.policy c.args.strangers.now) c.args.neighbours.now c.args.event c.snapshot-before.result.held
-    _ c.tell_neighbours.result c.in-Ok-tell_neighbours.is
+    _ c.tell_neighbour_or_handle_stranger.result c.in-Ok-tell_neighbour_or_handle_stranger.is
     (λ f wrong. not_done c.in-Ok.who f c.concerned_neighbour.result c.in-Ok.is (c.concerned_neighbour.ensures.misdirected f wrong))
-    c.tell_neighbours.ensures.rules
+    c.tell_neighbour_or_handle_stranger.ensures.rules
 
-pub returns-in-Err-tell_neighbours-clause-rules : goal.returns-in-Err-tell_neighbours-clause-rules
-returns-in-Err-tell_neighbours-clause-rules g c =
+pub returns-in-Err-tell_neighbour_or_handle_stranger-clause-rules : goal.returns-in-Err-tell_neighbour_or_handle_stranger-clause-rules
+returns-in-Err-tell_neighbour_or_handle_stranger-clause-rules g c =
     failed_goes _ (g.S.Strangers.policy c.args.strangers.now) c.args.neighbours.now c.args.event
-    c.in-Err-tell_neighbours.fault c.tell_neighbours.result c.in-Err-tell_neighbours.is
+    c.in-Err-tell_neighbour_or_handle_stranger.fault c.tell_neighbour_or_handle_stranger.result c.in-Err-tell_neighbour_or_handle_stranger.is
     (λ f wrong. not_done c.in-Ok.who f c.concerned_neighbour.result c.in-Ok.is (c.concerned_neighbour.ensures.misdirected f wrong))
-    c.tell_neighbours.ensures.rules
+    c.tell_neighbour_or_handle_stranger.ensures.rules

@@ -5,9 +5,9 @@ pub returns : goal.returns
 returns c =
     run_is_closed_or_open c.each_quiet_run_is_closed_or_open.ensures
     (record {
-      machine = c.octets_are_a_machine.ensures;
-      closed = c.closed_is_sound.ensures;
-      sounds = c.each_happening_keeps_sound.ensures;
-      fresh = c.each_happening_keeps_peers.ensures.fresh;
-      keeps = c.each_happening_keeps_peers.ensures.kept;
-    }) c.octets_are_electing.ensures c.octet_answers_match.ensures
+      machine = c.octet_peers_move_as_the_machine.ensures;
+      closed = c.closed_peers_make_a_sound_world.ensures;
+      sounds = c.each_happening_keeps_worlds_sound.ensures;
+      fresh = c.each_happening_keeps_peers_paired.ensures.fresh;
+      keeps = c.each_happening_keeps_peers_paired.ensures.kept;
+    }) c.paired_octet_peers_elect_one.ensures c.octet_peers_match_ceas_and_dpas.ensures

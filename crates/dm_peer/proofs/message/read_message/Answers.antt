@@ -6,10 +6,10 @@ use Rattle.dm_peer.proofs.message.read_message.Goals as goal
 pub returns-in-Ok : goal.returns-in-Ok
 returns-in-Ok c =
     let m = c.in-Ok.message in
-    read_in c.message_in_spells.ensures c.args.octets.now (λ i. Fits-lt-pow (c.type_inv.octets i)) m.header m.rest.now
+    read_in c.message_in_octets_is_what_they_spell.ensures c.args.octets.now (λ i. Fits-lt-pow (c.type_inv.octets i)) m.header m.rest.now
     c.in-Ok.ensures.found
 
 pub returns-in-Err : goal.returns-in-Err
 returns-in-Err c =
-    none_in c.message_in_spells.ensures c.no_message_refused.ensures c.args.octets.now c.in-Err.field-0
+    none_in c.message_in_octets_is_what_they_spell.ensures c.octets_of_messages_have_no_fault.ensures c.args.octets.now c.in-Err.field-0
     (λ i. Fits-lt-pow (c.type_inv.octets i)) c.in-Err.ensures.fault

@@ -28,11 +28,11 @@ handle_message-requires-clause-goes c =
     let m = c.in-Ok.message in
     let found = subst (λ r. IfOk r (λ read. (l : List Avp) × SpellsList l read.rest.now
     × SpellsMessage (message_with read.header l) s)) c.in-Ok.is c.read.ensures.found in
-    let at = read_in c.message_in_spells.ensures s (λ i. Fits-lt-pow (c.type_inv.octets i)) m.header m.rest.now found in
+    let at = read_in c.message_in_octets_is_what_they_spell.ensures s (λ i. Fits-lt-pow (c.type_inv.octets i)) m.header m.rest.now found in
     let read : is_unread p.standing.core.state (hold_of p.standing.core c.args.conn) ≡ false =
     cc (
-      c.is_unread.ensures,
-      c.if-is_unread.ensures,
+      c.leaves_octets_unread.ensures,
+      c.if-leaves_octets_unread.ensures,
       c.connection_footing-footing.ensures,
       c.state.ensures.value,
       c.get.ensures.value,
@@ -46,11 +46,11 @@ step_peer-requires-in-Err-clause-goes c =
     let refused = subst (λ r. IfErr r (Refuses s)) c.in-Err.is c.read.ensures.fault in
     let read : is_unread p.standing.core.state (hold_of p.standing.core c.args.conn) ≡ false =
     cc (
-      c.is_unread.ensures,
-      c.if-is_unread.ensures,
+      c.leaves_octets_unread.ensures,
+      c.if-leaves_octets_unread.ensures,
       c.connection_footing-footing.ensures,
       c.state.ensures.value,
       c.get.ensures.value,
     ) in
-    goes_by p c.args.conn s None read (none_in c.message_in_spells.ensures c.no_message_refused.ensures s
+    goes_by p c.args.conn s None read (none_in c.message_in_octets_is_what_they_spell.ensures c.octets_of_messages_have_no_fault.ensures s
     c.in-Err.field-0 (λ i. Fits-lt-pow (c.type_inv.octets i)) refused)

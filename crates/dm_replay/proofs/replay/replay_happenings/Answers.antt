@@ -21,8 +21,8 @@ script-preserved c =
     let whole = ap (λ l. replay_from n w l) cut ∙ line in
     let size = ap length cut in (
       omega (arith, c.script.invariant.0, size),
-      go_on _ c.script.text.items c.push_trace.new.text.items (trace_line n c.in-Ok.effect next)
+      go_on _ c.script.text.items c.push_trace_line.new.text.items (trace_line n c.in-Ok.effect next)
           (replay_from n w rest) (replay_from (n + 1) next more)
-          c.script.invariant.1 whole c.in_ok-push_trace-in-Ok.ensures,
+          c.script.invariant.1 whole c.in_ok-push_trace_line-in-Ok.ensures,
       sym (ap (λ r. r.1) whole) ∙ c.script.invariant.2,
     )

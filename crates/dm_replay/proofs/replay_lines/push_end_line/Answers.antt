@@ -7,7 +7,7 @@ unfolding end_line
 returns c =
     rw (
       c.in_ok-push.ensures.items,
-      c.in_ok-push_link.ensures,
+      c.in_ok-push_link_or_dash.ensures,
       c.in_ok-extend_from_slice-3.ensures.items,
       c.in_ok-push_yes_or_no-2.ensures,
       c.in_ok-extend_from_slice-2.ensures.items,

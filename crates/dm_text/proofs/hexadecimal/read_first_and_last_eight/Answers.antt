@@ -17,11 +17,11 @@ returns c =
     let two = put_chunk last one (back_of read) in
     let size : length two ≡ length octets = length-put_chunk last one (back_of read) ∙ length-put_chunk 0 octets (front_of read) in
     let end : last + 8 ≡ length octets = omega arith in
-    told word two c.lower_marks.result c.are_all_digits.result c.are_all_digits.ensures (omega (arith, size))
+    told word two c.lower_mark_in_each_lane.result c.are_all_digits.result c.are_all_digits.ensures (omega (arith, size))
     (λ none.
-    let (left, right) = c.lower_marks.ensures.both none in
+    let (left, right) = c.lower_mark_in_each_lane.ensures.both none in
     subst (AreRead word two) (end ∙ sym size)
     (ends_read word octets read front back last c.requires.twice end (omega arith) c.digit_marks-front.ensures
     c.digit_marks-back.ensures left right (c.octets_of_marks-read.ensures left right)))
-    (λ fails. either_bad front back c.lower_marks.result (HasBadDigit word) c.lower_marks.ensures.each fails
+    (λ fails. either_bad front back c.lower_mark_in_each_lane.result (HasBadDigit word) c.lower_mark_in_each_lane.ensures.each fails
     (run_bad word front 0 c.digit_marks-front.ensures) (run_bad word back (2 * last) c.digit_marks-back.ensures))

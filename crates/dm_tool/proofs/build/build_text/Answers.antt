@@ -7,14 +7,14 @@ use Rattle.dm_tool.proofs.build.build_text.Goals as goal
 
 pub overflow_add-before : goal.overflow_add-before
 overflow_add-before c =
-    let most = line_counts c.lines_are_joined.ensures.few c.args.input.now c.in-Some.line.now
+    let most = line_counts c.lines_of_parts_are_lines_of_whole.ensures.few c.args.input.now c.in-Some.line.now
     c.loop-line.line-iterator c.next.new.self
     c.loop-line.invariant.0 c.loop-line.invariant.1 c.in-Some.ensures.steps in
     omega (arith, most, c.loop-line.invariant.2)
 
 pub overflow_add-before-in-loop-line : goal.overflow_add-before-in-loop-line
 overflow_add-before-in-loop-line c =
-    let most = line_counts c.lines_are_joined.ensures.few c.args.input.now c.in-Some.line.now
+    let most = line_counts c.lines_of_parts_are_lines_of_whole.ensures.few c.args.input.now c.in-Some.line.now
     c.loop-line.line-iterator c.next.new.self
     c.loop-line.invariant.0 c.loop-line.invariant.1 c.in-Some.ensures.steps in
     omega (arith, most, c.loop-line.invariant.2)
@@ -24,15 +24,15 @@ returns-then-not-branch-clause-built c =
     let refused = c.in_ok-take_line.ensures.refused c.if-not-branch.true in
     let kept = c.in_ok-take_line.ensures.kept c.if-not-branch.true in
     built_up_to c.args.input.now c.in-Some.line.now c.loop-line.line-iterator c.next.new.self
-    c.loop-line.building.text.items c.push_syntax_fault.new.text.items c.loop-line.building.good
+    c.loop-line.building.text.items c.push_syntax_fault_of_line.new.text.items c.loop-line.building.good
     c.loop-line.building.last
     c.loop-line.building.avps.items
     c.loop-line.invariant.0
     (c.loop-line.before + 1) c.loop-line.invariant.1 c.in-Some.ensures.steps c.loop-line.invariant.3 refused.0 refused.1
     (ap (λ n. n + 1) c.loop-line.invariant.2)
-    (c.in_ok-push_syntax_fault.ensures
+    (c.in_ok-push_syntax_fault_of_line.ensures
     ∙ ap (λ t. t ++ codes "fault syntax " ++ decimal (c.loop-line.before + 1) ++ 10 ∷ [])
-    (c.into_text-text.ensures ∙ ap (λ b. b.text.items) kept))
+    (c.into_text_before_last_message-text.ensures ∙ ap (λ b. b.text.items) kept))
 
 pub loop-line-preserved : goal.loop-line-preserved
 loop-line-preserved c =
@@ -45,7 +45,7 @@ loop-line-preserved c =
       lines-next c.args.input.now c.in-Some.line.now c.loop-line.line-iterator c.next.new.self c.loop-line.invariant.0
           c.loop-line.invariant.1 c.in-Some.ensures.steps,
       ap (λ n. n + 1) c.loop-line.invariant.2 ∙ sym (length-append c.loop-line.invariant.0 (c.in-Some.line.now ∷ [])),
-      subst Lines (sym (c.lines_are_joined.ensures.content c.loop-line.invariant.0 (c.in-Some.line.now ∷ [])))
+      subst Lines (sym (c.lines_of_parts_are_lines_of_whole.ensures.content c.loop-line.invariant.0 (c.in-Some.line.now ∷ [])))
           (c.in_ok-take_line.ensures.taken c.if-not-branch.false (content c.loop-line.invariant.0)
           c.loop-line.invariant.3),
     )

@@ -3,4 +3,4 @@ use Rattle.dm_two_nodes.proofs.laws.two_nodes_agree.Goals as goal
 
 pub returns : goal.returns
 returns c =
-    two_nodes_agree c.each_neighbour_is_its_side.ensures c.octets_are_a_machine.ensures c.each_run_is_promised.ensures
+    two_nodes_agree c.neighbours_become_the_sides_they_play.ensures c.octet_peers_move_as_the_machine.ensures c.closed_peers_agree_after_each_run.ensures

@@ -10,7 +10,7 @@ returns-then-is_misshapen-clause-value c =
     (λ e. value_of_misshapen c.args.value.now (c.is_misshapen.ensures.0 c.if-is_misshapen.true), λ h. refl)
 
 pub returns-clause-one : goal.returns-clause-one
-returns-clause-one c = only_one c.one_value.ensures c.write_well_formed_value.result (λ o. o.items) _ c.args.value.now
+returns-clause-one c = only_one c.octets_have_one_value_at_most.ensures c.write_well_formed_value.result (λ o. o.items) _ c.args.value.now
     c.write_well_formed_value.ensures.found
 
 pub returns-clause-value : goal.returns-clause-value

@@ -14,8 +14,8 @@ decreases-write_member g l = 4 * l.depth + 2
 abbrev pub decreases-write_avp : goal.decreases-write_avp
 decreases-write_avp g l = 4 * l.depth + 1
 
-abbrev pub decreases-write_group : goal.decreases-write_group
-decreases-write_group g l = 4 * l.depth
+abbrev pub decreases-write_group_data : goal.decreases-write_group_data
+decreases-write_group_data g l = 4 * l.depth
 
 -- what is left comes behind what is written so far
 abbrev pub invariant-write_members-loop-avp : goal.invariant-write_members-loop-avp

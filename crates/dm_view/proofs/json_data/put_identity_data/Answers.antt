@@ -4,16 +4,16 @@ use Rattle.dm_view.proofs.CleanOctets.{clean_is_text, clean_is_unescaped, clean_
 use Rattle.dm_view.proofs.json_data.put_identity_data.Goals as goal
 
 pub from_utf8_unchecked-requires : goal.from_utf8_unchecked-requires
-from_utf8_unchecked-requires c = clean_is_text 33 c.args.octets.now (c.are_clean.ensures c.if-are_clean.true)
+from_utf8_unchecked-requires c = clean_is_text 33 c.args.octets.now (c.are_escape_free_ascii.ensures c.if-are_escape_free_ascii.true)
 
-pub clean_string-requires : goal.clean_string-requires
-clean_string-requires c =
-    let clean = c.are_clean.ensures c.if-are_clean.true in
+pub put_string_as_is-requires : goal.put_string_as_is-requires
+put_string_as_is-requires c =
+    let clean = c.are_escape_free_ascii.ensures c.if-are_escape_free_ascii.true in
     rw c.from_utf8_unchecked.ensures (clean_is_unescaped 33 c.args.octets.now (omega arith) clean)
 
-pub returns-then-are_clean : goal.returns-then-are_clean
-returns-then-are_clean c =
+pub returns-then-are_escape_free_ascii : goal.returns-then-are_escape_free_ascii
+returns-then-are_escape_free_ascii c =
     let some = eqb-false _ 0 (sym c.is_empty.ensures ∙ c.if-is_empty.false) in
-    let clean = c.are_clean.ensures c.if-are_clean.true in
+    let clean = c.are_escape_free_ascii.ensures c.if-are_escape_free_ascii.true in
     let is = clean_identity_json c.args.def.now c.args.octets.now c.requires (omega (arith, some)) clean in
-    rw (is, ← c.from_utf8_unchecked.ensures) c.clean_string.ensures
+    rw (is, ← c.from_utf8_unchecked.ensures) c.put_string_as_is.ensures

@@ -10,13 +10,13 @@ returns g c =
     let reason = error_member (refusal_sentence c.args.fault) in
     let members = checked_before c.args.dictionary.now c.args.octets.now c.args.fault reason in
     let opened : c.begin_object.new.self ≡ c.args.json.now ++ begin_object ∷ [] = c.in_ok-begin_object.ensures in
-    let fronted = c.in_ok-put_members.ensures (bad_members members) in
-    let bad : c.put_bad_if_checked.new.json ++ members_tokens members
-    ≡ c.put_members.new.json ++ members_tokens (bad_members members)
-    = c.in_ok-put_bad_if_checked.ensures members in
-    let before : c.put_json_front_checked.new.json ++ members_tokens reason ≡
-    c.put_bad_if_checked.new.json ++ members_tokens members
-    = c.in_ok-put_json_front_checked.ensures reason in
-    let ended : c.put_reason_and_close.new.json ≡ c.put_json_front_checked.new.json ++ members_tokens reason
-    = c.in_ok-put_reason_and_close.ensures in
+    let fronted = c.in_ok-put_front_members.ensures (bad_members members) in
+    let bad : c.put_bad_verdict_if_checked.new.json ++ members_tokens members
+    ≡ c.put_front_members.new.json ++ members_tokens (bad_members members)
+    = c.in_ok-put_bad_verdict_if_checked.ensures members in
+    let before : c.put_json_header_before_refusal.new.json ++ members_tokens reason ≡
+    c.put_bad_verdict_if_checked.new.json ++ members_tokens members
+    = c.in_ok-put_json_header_before_refusal.ensures reason in
+    let ended : c.put_refusal_and_end_object.new.json ≡ c.put_json_header_before_refusal.new.json ++ members_tokens reason
+    = c.in_ok-put_refusal_and_end_object.ensures in
     rw (ended, before, bad, fronted, opened) (simp append_assoc)

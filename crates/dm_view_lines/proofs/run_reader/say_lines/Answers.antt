@@ -6,22 +6,22 @@ use Rattle.dm_view_lines.proofs.run_reader.say_lines.Goals as goal
 
 pub returns-in-Ok-clause-written : goal.returns-in-Ok-clause-written
 returns-in-Ok-clause-written g c =
-    end_told _ _ _ c.new-speaker.result c.say_buffered_lines-said.new.speaker c.in-Ok.field-0.0 c.in-Ok.field-0.1 _
-    c.write_lines_end.result _ _ _ _ c.new-speaker.ensures c.in-Ok.ensures.goes c.in-Ok.ensures.told
+    end_told _ _ _ c.new-speaker.result c.say_and_count_reader_lines-said.new.speaker c.in-Ok.field-0.0 c.in-Ok.field-0.1 _
+    c.write_ending_of_lines.result _ _ _ _ c.new-speaker.ensures c.in-Ok.ensures.goes c.in-Ok.ensures.told
     c.tally-tally.ensures
-    c.write_lines_end.ensures.written c.write_lines_end.ensures.good
+    c.write_ending_of_lines.ensures.written c.write_ending_of_lines.ensures.good
 
 pub returns-in-Ok-clause-within : goal.returns-in-Ok-clause-within
 returns-in-Ok-clause-within g c =
     end_within c.args.coloured c.args.task c.args.dictionary.now c.new-speaker.result
-    c.say_buffered_lines-said.new.speaker c.in-Ok.field-0.0 c.in-Ok.field-0.1 c.write_lines_end.result _ _ _ c.in-Ok.ensures.goes c.in-Ok.ensures.told
+    c.say_and_count_reader_lines-said.new.speaker c.in-Ok.field-0.0 c.in-Ok.field-0.1 c.write_ending_of_lines.result _ _ _ c.in-Ok.ensures.goes c.in-Ok.ensures.told
 
 pub returns-in-Ok-clause-stopped : goal.returns-in-Ok-clause-stopped
 returns-in-Ok-clause-stopped g c =
-    end_unwritten _ _ _ c.new-speaker.result c.say_buffered_lines-said.new.speaker c.in-Ok.field-0.0 c.in-Ok.field-0.1 _
-    c.write_lines_end.result _ _ _ _ _ c.new-speaker.ensures c.in-Ok.ensures.goes c.in-Ok.ensures.told
+    end_unwritten _ _ _ c.new-speaker.result c.say_and_count_reader_lines-said.new.speaker c.in-Ok.field-0.0 c.in-Ok.field-0.1 _
+    c.write_ending_of_lines.result _ _ _ _ _ c.new-speaker.ensures c.in-Ok.ensures.goes c.in-Ok.ensures.told
     c.tally-tally.ensures
-    c.write_lines_end.ensures.stopped
+    c.write_ending_of_lines.ensures.stopped
 
 pub returns-in-Err-clause-stopped : goal.returns-in-Err-clause-stopped
 returns-in-Err-clause-stopped g c =

@@ -13,7 +13,7 @@ loop-avp-preserved c =
     let before = c.loop-avp.invariant in
     let more = list_more l i a c.loop-avp-test.true c.avp-item.is in
     let size : length (canonical_avp a) ≡ (avp_length a + 3) / 4 * 4 = canonical_size a in
-    let len = c.avp_len-length.ensures in
+    let len = c.unpadded_avp_len-length.ensures in
     record {
       few = omega (arith, before.few, c.one_if_too_long-long.ensures.one);
       spelled = λ none. list_more_spelled l i a c.loop-avp-test.true c.avp-item.is (before.spelled (omega arith))

@@ -4,14 +4,14 @@ use Rattle.dm_world.proofs.Performs.{frames_one, frames_rest}
 use Rattle.dm_octet_peers.specs.Octets.{as_action, as_actions}
 use Rattle.dm_world.proofs.events_on_links.perform_actions.Goals as goal
 
-pub perform_action-requires-clause-frames : goal.perform_action-requires-clause-frames
-perform_action-requires-clause-frames c =
+pub perform_one_action-requires-clause-frames : goal.perform_one_action-requires-clause-frames
+perform_one_action-requires-clause-frames c =
     let is = took c.loop-action.actions.items c.pop_at.new.self.items c.in-Some.action c.in-Some.ensures.value
     c.in-Some.ensures.items in
     frames_one _ _ (frames_now _ _ _ is c.loop-action.invariant.frames)
 
-pub perform_action-requires-clause-room : goal.perform_action-requires-clause-room
-perform_action-requires-clause-room c =
+pub perform_one_action-requires-clause-room : goal.perform_one_action-requires-clause-room
+perform_one_action-requires-clause-room c =
     let is = took c.loop-action.actions.items c.pop_at.new.self.items c.in-Some.action c.in-Some.ensures.value
     c.in-Some.ensures.items in
     room_one _ _ _ _ (room_now _ _ _ _ _ is c.loop-action.invariant.room)
@@ -21,8 +21,8 @@ loop-action-preserved c =
     let is = took c.loop-action.actions.items c.pop_at.new.self.items c.in-Some.action c.in-Some.ensures.value
     c.in-Some.ensures.items in
     record {
-      performed = performed_turn _ _ _ _ _ _ is c.perform_action.ensures.performed ∙ c.loop-action.invariant.performed;
-      room = room_rest _ _ _ _ _ (room_now _ _ _ _ _ is c.loop-action.invariant.room) c.perform_action.ensures.room;
+      performed = performed_turn _ _ _ _ _ _ is c.perform_one_action.ensures.performed ∙ c.loop-action.invariant.performed;
+      room = room_rest _ _ _ _ _ (room_now _ _ _ _ _ is c.loop-action.invariant.room) c.perform_one_action.ensures.room;
       frames = frames_rest (as_action c.in-Some.action) (as_actions c.pop_at.new.self.items)
           (frames_now _ _ _ is c.loop-action.invariant.frames);
     }

@@ -22,6 +22,6 @@ returns c = λ caps shows.
     subst (λ (s : List ℕ). IsPermutation s c.sorted_ids-specific.result.now) c.vendor_application_ids.ensures.ids
     c.sorted_ids-specific.ensures.same in
     let relay : is_relay n ≡ false = sym c.is_relay.ensures ∙ c.if-is_relay.false in
-    c.avps_tell_common_id.ensures shows.avps shows.listed ∙ same_own _ _ _ _ _ _ told auth acct specific
+    c.some_avp_tells_common_id.ensures shows.avps shows.listed ∙ same_own _ _ _ _ _ _ told auth acct specific
     ∙ or_behind (is_relay n) (meets n told) relay
     ∙ ap (λ (ids : List ℕ). is_relay n || meets n ids) (sym shows.applications)

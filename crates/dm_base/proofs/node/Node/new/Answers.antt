@@ -17,7 +17,7 @@ invariant_of-result c =
     c.args.auth.items c.args.acct.items =
     no_fault_of _ _ _ _ _ _ _ _ _ _ _ _ c.as_slice.ensures.value c.as_slice-2.ensures.value c.as_slice-3.ensures.value
     c.as_str.ensures.value c.as_slice-4.ensures.value c.as_slice-5.ensures.value
-    (sym c.fault_of_parts.ensures ∙ c.in-None.is) sized c.text_is_utf8.ensures ids more in
+    (sym c.fault_of_node_parts.ensures ∙ c.in-None.is) sized c.text_is_utf8.ensures ids more in
     record {
       fit_host = rw c.from_vec.ensures fit.host_is;
       fit_realm = rw c.from_vec-in-None.ensures fit.realm_is;

@@ -16,4 +16,4 @@ returns-clause-typed c =
     rw (← c.self.view_is)
     (good_result c.verdict.result _ _
     (rw (c.judge_message.ensures.fault c.args.message.now.avps c.as_slice.ensures) at c.verdict.ensures.found)
-    (c.good_is_typed.ensures (defined c.self.inside.linked.tables) c.args.message.now))
+    (c.good_messages_have_typed_values.ensures (defined c.self.inside.linked.tables) c.args.message.now))

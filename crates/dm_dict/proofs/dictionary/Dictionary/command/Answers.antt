@@ -3,6 +3,6 @@ use Rattle.dm_dict.proofs.dictionary.Dictionary.command.Goals as goal
 
 pub returns-clause-one : goal.returns-clause-one
 returns-clause-one c =
-    rw (c.command_by_head.ensures, ← c.self.view_is)
-    ((c.one_of_each.ensures (defined c.self.inside.linked.tables) c.self.invariant.dictionary.tables.sound).head
+    rw (c.command_by_code.ensures, ← c.self.view_is)
+    ((c.each_name_and_code_defines_one_at_most.ensures (defined c.self.inside.linked.tables) c.self.invariant.dictionary.tables.sound).head
     c.args.code c.args.request c.args.err)

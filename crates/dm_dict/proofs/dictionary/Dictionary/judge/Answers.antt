@@ -8,7 +8,7 @@ use Rattle.dm_tables.specs.Tables.{defined}
 use Rattle.dm_dict.proofs.dictionary.Dictionary.judge.Goals as goal
 
 pub returns-clause-verdict : goal.returns-clause-verdict
-returns-clause-verdict c = rw (← c.self.view_is) c.judge_spelled.ensures.fault
+returns-clause-verdict c = rw (← c.self.view_is) c.judge_spelled_message.ensures.fault
 
 pub returns-clause-checked : goal.returns-clause-checked
 returns-clause-checked c = λ m same spelled.
@@ -16,10 +16,10 @@ returns-clause-checked c = λ m same spelled.
     (λ i. record { header = sym same i; avps = m.avps }) in
     rw (← c.self.view_is)
     (ap verdict_of
-    (c.judge_spelled.ensures.fault m.avps spelled ∙ ap (λ (x : Message). first (faults (defined c.self.inside.linked.tables) x))
+    (c.judge_spelled_message.ensures.fault m.avps spelled ∙ ap (λ (x : Message). first (faults (defined c.self.inside.linked.tables) x))
     whole))
 
 pub returns-clause-found : goal.returns-clause-found
 returns-clause-found c = λ l spelled.
     found_placed (defined c.self.inside.linked.tables) (record { header = c.args.message.now.header; avps = l })
-    c.judge_spelled.result (c.judge_spelled.ensures.fault l spelled) c.judge_spelled.ensures.missing
+    c.judge_spelled_message.result (c.judge_spelled_message.ensures.fault l spelled) c.judge_spelled_message.ensures.missing

@@ -8,9 +8,9 @@ pub returns : goal.returns
 returns c =
     let d = defined c.self.inside.linked.tables in
     rw (← c.self.view_is) (record {
-      all = c.located_faults_of_spelled.ensures.all;
-      found = under_ok c.located_faults_of_spelled.result _ _
+      all = c.located_faults_of_spelled_message.ensures.all;
+      found = under_ok c.located_faults_of_spelled_message.result _ _
           (λ listed all l spelled. located_found d (record { header = c.args.message.now.header; avps = l }) listed.items
-          (all l spelled)) c.located_faults_of_spelled.ensures.all;
-      memory = c.located_faults_of_spelled.ensures.memory;
+          (all l spelled)) c.located_faults_of_spelled_message.ensures.all;
+      memory = c.located_faults_of_spelled_message.ensures.memory;
     })

@@ -9,7 +9,7 @@ pub returns : goal.returns
 returns c =
     let whole = c.self.view_is ∙ c.leave_stream.ensures in
     let none : c.self.inside.framer.octets ≡ [] = none_in_front _ _ (ap (λ (f : FlowState). f.ready) whole) in
-    rw (none, c.new.ensures, c.number_behind.ensures, c.len.ensures, ← c.args.front.ok.0)
+    rw (none, c.new.ensures, c.sequence_number_behind.ensures, c.len.ensures, ← c.args.front.ok.0)
     (ap (λ (f : FlowState). record f {
       window = Some (record { next = sequence_behind c.args.number c.args.front.len; held = [] });
       ready = c.args.front.items;

@@ -12,5 +12,5 @@ returns-then-is_go c =
 pub returns-in-Running : goal.returns-in-Running
 returns-in-Running c =
     running_line _ c.args.number c.args.line.now (settings_of c.args.self.now.draft) c.args.self.now.begun
-    c.in-Running.form c.in-Running.node (meeting_of c.answer_running_line.new.node) _ _ c.in-Running.is
-    c.answer_running_line.ensures
+    c.in-Running.form c.in-Running.node (meeting_of c.answer_line_by_running_node.new.node) _ _ c.in-Running.is
+    c.answer_line_by_running_node.ensures

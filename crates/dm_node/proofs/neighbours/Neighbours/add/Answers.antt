@@ -6,5 +6,5 @@ use Rattle.dm_node.proofs.neighbours.Neighbours.add.Goals as goal
 
 pub returns-clause-added : goal.returns-clause-added
 returns-clause-added c =
-    subst (λ (y : Peer). OnOk c.insert.result (c.insert.new.self ≡ c.args.self.now ++ Some y ∷ []))
-    (made c.new.result c.args.config c.new.ensures.config c.new.ensures.standing) c.insert.ensures.added
+    subst (λ (y : Peer). OnOk c.insert_peer.result (c.insert_peer.new.self ≡ c.args.self.now ++ Some y ∷ []))
+    (made c.new.result c.args.config c.new.ensures.config c.new.ensures.standing) c.insert_peer.ensures.added

@@ -14,7 +14,7 @@ invariant_of-self c =
     record {
       held = done_or_not c.feed.result (AllHeldAreThere ps) (changed c.args.conn.0 fed old) old
           (intakes_of c.feed.new.self) c.feed.ensures.fed c.feed.ensures.unchanged
-          (held_changed c.what_is_there_stays.ensures.changed ps c.args.conn.0 fed old c.args.self.now.held)
+          (held_changed c.connections_stay_until_closed.ensures.changed ps c.args.conn.0 fed old c.args.self.now.held)
           c.args.self.now.held;
       owned = owned_same ps (owners_of c.args.self.now.intakes) (owners_of c.feed.new.self) c.feed.ensures.owners c.args.self.now.owned;
       met = c.args.self.now.met;

@@ -20,7 +20,7 @@ invariant_of-self c =
     record {
       held = some_or_not c.feed_front.result (AllHeldAreThere ps) fed old (intakes_of c.feed_front.new.self)
           c.feed_front.ensures.fed c.feed_front.ensures.unchanged
-          (λ n. held_changed c.what_is_there_stays.ensures.changed ps c.args.conn.0
+          (λ n. held_changed c.connections_stay_until_closed.ensures.changed ps c.args.conn.0
           (fed_intake (take n c.args.piece.now)) old c.args.self.now.held) c.args.self.now.held;
       owned = owned_same ps (owners_of c.args.self.now.intakes) (owners_of c.feed_front.new.self)
           c.feed_front.ensures.owners c.args.self.now.owned;

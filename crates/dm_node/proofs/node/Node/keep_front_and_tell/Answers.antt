@@ -21,7 +21,7 @@ pub returns-in-Err-next-clause-unchanged : goal.returns-in-Err-next-clause-uncha
 returns-in-Err-next-clause-unchanged g c =
     c.take_back.ensures.back
     ∙ ap (node_unfed c.args.conn c.in-Ok.size) (c.in-Err-next.ensures.unchanged ∙ c.in-Ok.ensures.fed)
-    ∙ taken_back c.taking_back_undoes.ensures c.args.conn c.args.piece.now c.in-Ok.size
+    ∙ taken_back c.taking_back_undoes_feeding.ensures c.args.conn c.args.piece.now c.in-Ok.size
     (node_state_of c.args.self.now) c.in-Ok.ensures.taken
 
 pub returns-in-Err-next-clause-memory : goal.returns-in-Err-next-clause-memory

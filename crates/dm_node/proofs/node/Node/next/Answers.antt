@@ -16,7 +16,7 @@ returns-in-Ok-clause-turn g c =
     let at = c.in-Message.ensures in
     let old = node_state_of c.args.self.now in
     let qs = c.tell_message.new.neighbours in
-    let gone = c.skip.ensures.skipped at.0 c.in-Message.message.now at.1 at.2 at.3 in
+    let gone = c.skip_front_message.ensures.skipped at.0 c.in-Message.message.now at.1 at.2 at.3 in
     let told : NodeTellsMessage policy c.args.conn old (as_answer c.tell_message.new.answer)
     (node_at old qs (intakes_of c.settle_connections.new.slots)) =
     record {
@@ -40,7 +40,7 @@ invariant_of-self-in-Ok g c =
       held = c.settle_connections.ensures.held;
       owned = c.settle_connections.ensures.owned c.args.self.now.neighbours c.in-Ok.ensures.before
           (owned_same c.args.self.now.neighbours (owners_of c.args.self.now.intakes)
-          (owners_of c.skip.new.self) c.skip.ensures.owners c.args.self.now.owned);
+          (owners_of c.skip_front_message.new.self) c.skip_front_message.ensures.owners c.args.self.now.owned);
       met = c.tell_message.ensures.places;
     }
 
@@ -85,6 +85,6 @@ settle_connections-requires-clause-there g c =
     let message = c.in-Message.message.now in
     let old = intakes_of c.args.self.now.intakes in
     let qs = c.tell_message.new.neighbours in
-    subst (AllHeldAreThere qs) (sym (c.skip.ensures.skipped at.0 message at.1 at.2 at.3))
-    (held_with c.what_is_there_stays.ensures.told qs c.args.conn.0 (record at.0 { octets = at.1 }) old
+    subst (AllHeldAreThere qs) (sym (c.skip_front_message.ensures.skipped at.0 message at.1 at.2 at.3))
+    (held_with c.connections_stay_until_closed.ensures.told qs c.args.conn.0 (record at.0 { octets = at.1 }) old
     (c.tell_message.ensures.held old c.args.self.now.held (arrived_there c.args.conn message at.0 old at.2)))

@@ -14,7 +14,7 @@ invariant_of-self c =
     record {
       held = done_or_not c.open.result (AllHeldAreThere ps) (opened max c.args.conn.0 old) old
           (intakes_of c.open.new.self) c.open.ensures.opened c.open.ensures.unchanged
-          (held_opened c.what_is_there_stays.ensures.opened ps max c.args.conn.0 old c.args.self.now.held)
+          (held_opened c.connections_stay_until_closed.ensures.opened ps max c.args.conn.0 old c.args.self.now.held)
           c.args.self.now.held;
       owned = owned_same ps (owners_of c.args.self.now.intakes) (owners_of c.open.new.self) c.open.ensures.owners c.args.self.now.owned;
       met = c.args.self.now.met;

@@ -16,10 +16,10 @@ invariant_of-self c =
     record {
       held = held_set ps _ c.args.index _ (intakes_of c.args.self.now.intakes)
           (intakes_of c.shut_held.new.intakes) c.remove-gone.ensures.without
-          (c.shut_held.ensures.shut (peer_at ps c.args.index) c.holding-held.ensures.holds) c.neighbours_are_sound.ensures.apart.apart
+          (c.shut_held.ensures.shut (peer_at ps c.args.index) c.held_connections-held.ensures.holds) c.neighbours_are_sound.ensures.apart.apart
           (λ d. refl) c.args.self.now.held;
-      owned = owned_set ps _ c.args.index _ c.holding-held.result (owners_of c.args.self.now.intakes) (owners_of c.shut_held.new.intakes)
-          c.remove-gone.ensures.without (λ d. refl) c.neighbours_are_sound.ensures.apart.apart c.holding-held.ensures.holds
+      owned = owned_set ps _ c.args.index _ c.held_connections-held.result (owners_of c.args.self.now.intakes) (owners_of c.shut_held.new.intakes)
+          c.remove-gone.ensures.without (λ d. refl) c.neighbours_are_sound.ensures.apart.apart c.held_connections-held.ensures.holds
           c.shut_held.ensures.owners c.args.self.now.owned;
       met = subst (AreKnown _) (sym c.forget.ensures)
           (known_fewer ps _ (known_of c.args.self.now.known) c.args.index c.args.self.now.met
@@ -29,4 +29,4 @@ invariant_of-self c =
 pub returns-clause-without : goal.returns-clause-without
 returns-clause-without c =
     node_is (node_state_of c.args.self.now) _ _ _ _ c.remove-gone.ensures.without
-    (c.shut_held.ensures.shut (peer_at c.args.self.now.neighbours c.args.index) c.holding-held.ensures.holds)
+    (c.shut_held.ensures.shut (peer_at c.args.self.now.neighbours c.args.index) c.held_connections-held.ensures.holds)

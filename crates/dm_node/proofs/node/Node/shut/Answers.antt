@@ -11,7 +11,7 @@ invariant_of-self c =
     let ps = c.args.self.now.neighbours in
     record {
       held = subst (AllHeldAreThere ps) (sym c.shut.ensures.shut)
-          (held_shut c.what_is_there_stays.ensures.shut ps c.args.conn (intakes_of c.args.self.now.intakes)
+          (held_shut c.connections_stay_until_closed.ensures.shut ps c.args.conn (intakes_of c.args.self.now.intakes)
           c.args.self.now.held c.requires);
       owned = owned_shut ps c.args.conn (owners_of c.args.self.now.intakes) (owners_of c.shut.new.self) c.requires c.shut.ensures.owners
           c.args.self.now.owned;

@@ -13,7 +13,7 @@ invariant_of-self c =
     let old = intakes_of c.args.self.now.intakes in
     record {
       held = subst (AllHeldAreThere ps) (sym c.take_back.ensures.back)
-          (held_changed c.what_is_there_stays.ensures.changed ps c.args.conn.0 (unfed_intake c.args.size) old
+          (held_changed c.connections_stay_until_closed.ensures.changed ps c.args.conn.0 (unfed_intake c.args.size) old
           c.args.self.now.held);
       owned = owned_same ps (owners_of c.args.self.now.intakes) (owners_of c.take_back.new.self)
           c.take_back.ensures.owners c.args.self.now.owned;

@@ -19,5 +19,5 @@ returns-in-Err-2 c =
     record {
       said = packet_passed c.args.task c.args.dictionary.now c.args.self.now (captured_of c.args.packet.now) c.in-Err.why
           c.first_known_time-self.result _ _ c.first_known_time-self.ensures none
-          (sym c.is_other_protocol.ensures ∙ c.if-is_other_protocol.false) c.count_passed_packet.ensures;
+          (sym c.is_other_protocol.ensures ∙ c.if-is_other_protocol.false) c.count_if_fragment_or_cut.ensures;
     }

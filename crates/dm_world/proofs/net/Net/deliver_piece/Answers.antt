@@ -20,17 +20,17 @@ to_come_at : (s : Side) (l : Link (List ℕ)) (d : Direction (List ℕ)) (n : �
     n ≡ octets_to_come d.messages d.taken → n ≡ octets_to_come_to s l
 to_come_at s l d n at is = is ∙ ap (λ (e : Direction (List ℕ)). octets_to_come e.messages e.taken) at
 
-pub returns-then-octets_left-count-clause-step : goal.returns-then-octets_left-count-clause-step
-returns-then-octets_left-count-clause-step c =
+pub returns-then-front_octets_left-count-clause-step : goal.returns-then-front_octets_left-count-clause-step
+returns-then-front_octets_left-count-clause-step c =
     let s = as_side c.args.side in
     let w = as_world c.args.self.now in
     let next = as_world c.deliver_message_to.new.self in
     let outcome = c.in_ok-deliver_message_to-in-Message.field-0 in
     let there = c.in_ok-index.ensures.there in
-    let come : c.octets_left.result ≡ octets_to_come_to s (as_link c.index-link.result.now) =
-    to_come_at s (as_link c.index-link.result.now) c.incoming.result.now.direction c.octets_left.result
-    c.incoming.ensures
-    c.octets_left.ensures in
+    let come : c.front_octets_left.result ≡ octets_to_come_to s (as_link c.index-link.result.now) =
+    to_come_at s (as_link c.index-link.result.now) c.direction_to.result.now.direction c.front_octets_left.result
+    c.direction_to.ensures
+    c.front_octets_left.ensures in
     let above : octets_to_come_to s (as_link c.index-link.result.now) ≤ c.args.count =
     omega (arith, come) in
     subst (λ k. Effects outcome (happens octet_peers w (Pieces k s c.args.count)) w next) there.0
@@ -46,14 +46,14 @@ returns-in-Disconnect-clause-step c =
     c.in_ok-index.ensures.there c.index-link.ensures) (omega arith)
     (subst (λ n. (n ≡ next.Disconnect) ⊎ (n ≡ next.Nothing)) c.coming_next_to.ensures c.in-Disconnect.is)
 
-pub returns-in_ok-deliver_part-in-Message-clause-step : goal.returns-in_ok-deliver_part-in-Message-clause-step
-returns-in_ok-deliver_part-in-Message-clause-step c =
+pub returns-in_ok-deliver_octets_to-in-Message-clause-step : goal.returns-in_ok-deliver_octets_to-in-Message-clause-step
+returns-in_ok-deliver_octets_to-in-Message-clause-step c =
     let s = as_side c.args.side in
     let there = c.in_ok-index.ensures.there in
-    let come : c.octets_left.result ≡ octets_to_come_to s (as_link c.index-link.result.now) =
-    to_come_at s (as_link c.index-link.result.now) c.incoming.result.now.direction c.octets_left.result
-    c.incoming.ensures
-    c.octets_left.ensures in
+    let come : c.front_octets_left.result ≡ octets_to_come_to s (as_link c.index-link.result.now) =
+    to_come_at s (as_link c.index-link.result.now) c.direction_to.result.now.direction c.front_octets_left.result
+    c.direction_to.ensures
+    c.front_octets_left.ensures in
     let below : c.args.count < octets_to_come_to s (as_link c.index-link.result.now) =
     omega (arith, come) in
     part_step s c.args.conn.0 c.args.count (as_world c.args.self.now) _ (as_link c.index-link.result.now)
@@ -62,20 +62,20 @@ returns-in_ok-deliver_part-in-Message-clause-step c =
     (sym c.coming_next_to.ensures ∙ c.in-Message.is) (omega arith) below
     (ap (λ ls. record { a = c.args.self.now.pair.a; b = c.args.self.now.pair.b; links = ls })
     (changed (by_side s (take_part c.args.count)) c.in_ok-index.index c.args.self.now.links.items _
-    c.deliver_part.new.self
-    c.index_mut.ensures.value there.1 c.in_ok-deliver_part-in-Message.ensures.taken
+    c.deliver_octets_to.new.self
+    c.index_mut.ensures.value there.1 c.in_ok-deliver_octets_to-in-Message.ensures.taken
     ∙ ap (λ k. change_at k (by_side s (take_part c.args.count)) (as_links c.args.self.now.links.items)) there.0))
 
 at_err : {T E P : Type 0} (r : Result T E) → P → OnErr r P
 at_err (Ok x) is = tt
 at_err (Err e) is = is
 
-pub returns-in_err-deliver_part-in-Message-clause-unchanged : goal.returns-in_err-deliver_part-in-Message-clause-unchanged
-returns-in_err-deliver_part-in-Message-clause-unchanged c =
-    at_err c.from_residual-in_err-deliver_part-in-Message.result
+pub returns-in_err-deliver_octets_to-in-Message-clause-unchanged : goal.returns-in_err-deliver_octets_to-in-Message-clause-unchanged
+returns-in_err-deliver_octets_to-in-Message-clause-unchanged c =
+    at_err c.from_residual-in_err-deliver_octets_to-in-Message.result
     (ap (λ ls. record { a = c.args.self.now.pair.a; b = c.args.self.now.pair.b; links = ls })
-    (same_links c.in_ok-index.index c.args.self.now.links.items _ c.deliver_part.new.self c.index_mut.ensures.value
-    c.in_err-deliver_part-in-Message.ensures.unchanged))
+    (same_links c.in_ok-index.index c.args.self.now.links.items _ c.deliver_octets_to.new.self c.index_mut.ensures.value
+    c.in_err-deliver_octets_to-in-Message.ensures.unchanged))
 
 pub returns-in_err-deliver_message_to-in-Message-clause-fault : goal.returns-in_err-deliver_message_to-in-Message-clause-fault
 returns-in_err-deliver_message_to-in-Message-clause-fault c =
@@ -91,14 +91,14 @@ returns-in_err-deliver_message_to-in-Message-clause-fault c =
     (as_link c.index-link.result.now) there (sym c.coming_next_to.ensures ∙ c.in-Message.is) (omega arith) hears in
     search rules
 
-pub returns-in_err-deliver_part-in-Message-clause-fault : goal.returns-in_err-deliver_part-in-Message-clause-fault
-returns-in_err-deliver_part-in-Message-clause-fault c =
+pub returns-in_err-deliver_octets_to-in-Message-clause-fault : goal.returns-in_err-deliver_octets_to-in-Message-clause-fault
+returns-in_err-deliver_octets_to-in-Message-clause-fault c =
     let there =
     link_found c.args.conn.0 c.in_ok-index.index c.args.self.now.links.items c.index-link.result.now
     c.in_ok-index.ensures.there c.index-link.ensures in
-    let come : c.octets_left.result ≡ octets_to_come_to (as_side c.args.side) (as_link c.index-link.result.now) =
-    to_come_at (as_side c.args.side) (as_link c.index-link.result.now) c.incoming.result.now.direction
-    c.octets_left.result c.incoming.ensures c.octets_left.ensures in
+    let come : c.front_octets_left.result ≡ octets_to_come_to (as_side c.args.side) (as_link c.index-link.result.now) =
+    to_come_at (as_side c.args.side) (as_link c.index-link.result.now) c.direction_to.result.now.direction
+    c.front_octets_left.result c.direction_to.ensures c.front_octets_left.ensures in
     let below : c.args.count < octets_to_come_to (as_side c.args.side) (as_link c.index-link.result.now) =
     omega (arith, come) in
     let want : IsTrue (is_fed_at (as_side c.args.side) c.args.count

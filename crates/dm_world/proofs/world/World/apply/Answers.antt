@@ -9,11 +9,11 @@ pub invariant_of-self : goal.invariant_of-self
 invariant_of-self c =
     let laws : KeepingLaws =
     record {
-      machine = c.octets_are_a_machine.ensures;
-      sound = c.each_happening_keeps_sound.ensures;
-      peers = c.each_happening_keeps_peers.ensures.kept;
-      cut = c.each_run_is_cut.ensures.step;
-      sized = c.octets_are_sized.ensures;
+      machine = c.octet_peers_move_as_the_machine.ensures;
+      sound = c.each_happening_keeps_worlds_sound.ensures;
+      peers = c.each_happening_keeps_peers_paired.ensures.kept;
+      cut = c.no_front_message_is_fully_delivered.ensures.step;
+      sized = c.octet_peers_send_no_empty_message.ensures;
     } in
     record {
       kept = kept_result c.apply.result (as_happening c.args.happening.now) (as_world c.self.inside.net)
@@ -21,6 +21,6 @@ invariant_of-self c =
       past = past_result c.apply.result c.args.happening.now (as_world c.self.inside.net) (as_world c.apply.new.self)
           c.self.invariant.past c.apply.ensures.step c.apply.ensures.unchanged;
       named = named_result c.apply.result c.args.happening.now (as_world c.self.inside.net) (as_world c.apply.new.self)
-          c.self.inside.made c.apply.new.made c.acks_make_ends.ensures c.self.invariant.named c.apply.ensures.step
+          c.self.inside.made c.apply.new.made c.only_acks_make_ends_fresh.ensures c.self.invariant.named c.apply.ensures.step
           c.apply.ensures.unchanged c.apply.ensures.made c.apply.ensures.same;
     }

@@ -7,6 +7,6 @@ use Rattle.dm_world.proofs.world.World.open_link.Goals as goal
 
 pub returns-clause-none : goal.returns-clause-none
 returns-clause-none c =
-    subst (λ (w : OctetWorld). IfNone c.open_on_both.result ((k : ℕ) →
+    subst (λ (w : OctetWorld). IfNone c.conn_open_on_both.result ((k : ℕ) →
     AreBothOpenOn (octet_peers.node_of w.a) (octet_peers.node_of w.b) k → ⊥)) c.self.view_is
-    c.open_on_both.ensures.none
+    c.conn_open_on_both.ensures.none

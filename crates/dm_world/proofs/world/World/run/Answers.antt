@@ -7,68 +7,68 @@ use Rattle.dm_world.proofs.world.World.run.Goals as goal
 
 pub returns-clause-ends : goal.returns-clause-ends
 returns-clause-ends c =
-    (c.sound_is_promised.ensures octet_peers c.apply_each-ended.new.self
+    (c.peers_of_sound_worlds_agree.ensures octet_peers c.apply_up_to_fault-ended.new.self
     c.every_world_is_kept-2.ensures.sound).ends_are_held
 
 pub returns-clause-held : goal.returns-clause-held
 returns-clause-held c =
-    (c.sound_is_promised.ensures octet_peers c.apply_each-ended.new.self
+    (c.peers_of_sound_worlds_agree.ensures octet_peers c.apply_up_to_fault-ended.new.self
     c.every_world_is_kept-2.ensures.sound).held_are_links
 
 pub returns-clause-matched : goal.returns-clause-matched
 returns-clause-matched c =
-    (c.sound_is_promised.ensures octet_peers c.apply_each-ended.new.self
+    (c.peers_of_sound_worlds_agree.ensures octet_peers c.apply_up_to_fault-ended.new.self
     c.every_world_is_kept-2.ensures.sound).open_is_matched
 
 pub returns-clause-joined : goal.returns-clause-joined
 returns-clause-joined c quiet =
-    c.octet_quiet_is_joined.ensures c.apply_each-ended.new.self c.every_world_is_kept-2.ensures.sound
+    c.quiet_octet_peers_are_closed_or_joined.ensures c.apply_up_to_fault-ended.new.self c.every_world_is_kept-2.ensures.sound
     c.every_world_is_kept-2.ensures.peers quiet
 
 pub returns-clause-can_open : goal.returns-clause-can_open
 returns-clause-can_open c =
-    c.each_octet_world_can_open.ensures c.apply_each-ended.new.self c.every_world_is_kept-2.ensures.sound
+    c.each_octet_world_can_restart_and_open.ensures c.apply_up_to_fault-ended.new.self c.every_world_is_kept-2.ensures.sound
     c.every_world_is_kept-2.ensures.peers
 
 pub returns-clause-past : goal.returns-clause-past
 returns-clause-past c a b past is =
-    past_goes_on (new_world a b) c.args.self.now c.apply_each-ended.new.self past
-    (take c.apply_each-ended.result.0 c.args.list.now) is c.apply_each-ended.ensures.ran
+    past_goes_on (new_world a b) c.args.self.now c.apply_up_to_fault-ended.new.self past
+    (take c.apply_up_to_fault-ended.result.0 c.args.list.now) is c.apply_up_to_fault-ended.ensures.ran
 
 pub returns-clause-delivers : goal.returns-clause-delivers
 returns-clause-delivers c a b past is =
-    let now = take c.apply_each-ended.result.0 c.args.list.now in
-    past_delivers c.each_octet_run_delivers.ensures a b (past ++ now) c.apply_each-ended.new.self
-    (past_goes_on (new_world a b) c.args.self.now c.apply_each-ended.new.self past now is
-    c.apply_each-ended.ensures.ran)
+    let now = take c.apply_up_to_fault-ended.result.0 c.args.list.now in
+    past_delivers c.each_octet_run_delivers_in_order.ensures a b (past ++ now) c.apply_up_to_fault-ended.new.self
+    (past_goes_on (new_world a b) c.args.self.now c.apply_up_to_fault-ended.new.self past now is
+    c.apply_up_to_fault-ended.ensures.ran)
 
 pub returns-clause-closed_or_open : goal.returns-clause-closed_or_open
 returns-clause-closed_or_open c a b past is =
-    let now = take c.apply_each-ended.result.0 c.args.list.now in
+    let now = take c.apply_up_to_fault-ended.result.0 c.args.list.now in
     past_closed_or_open c.each_octet_quiet_run_is_closed_or_open.ensures a b (past ++ now)
-    c.apply_each-ended.new.self
-    (past_goes_on (new_world a b) c.args.self.now c.apply_each-ended.new.self past now is
-    c.apply_each-ended.ensures.ran)
+    c.apply_up_to_fault-ended.new.self
+    (past_goes_on (new_world a b) c.args.self.now c.apply_up_to_fault-ended.new.self past now is
+    c.apply_up_to_fault-ended.ensures.ran)
 
 pub returns-clause-upward : goal.returns-clause-upward
 returns-clause-upward c a b past is =
-    c.each_octet_run_hands_up_what_came.ensures a b
-    (map as_happening (past ++ take c.apply_each-ended.result.0 c.args.list.now))
+    c.each_octet_run_hands_up_only_arrivals.ensures a b
+    (map as_happening (past ++ take c.apply_up_to_fault-ended.result.0 c.args.list.now))
 
 pub returns-clause-settled : goal.returns-clause-settled
 returns-clause-settled c closed clean =
-    c.each_octet_run_settles.ensures c.args.self.now c.every_world_is_kept.ensures.sound
+    c.each_clean_octet_run_keeps_its_course.ensures c.args.self.now c.every_world_is_kept.ensures.sound
     c.every_world_is_kept.ensures.peers closed
-    (map as_happening (take c.apply_each-ended.result.0 c.args.list.now)) clean
+    (map as_happening (take c.apply_up_to_fault-ended.result.0 c.args.list.now)) clean
 
 pub returns-clause-falls_quiet : goal.returns-clause-falls_quiet
 returns-clause-falls_quiet c closed clean =
-    c.each_octet_run_falls_quiet.ensures c.args.self.now c.every_world_is_kept.ensures.sound
+    c.each_clean_octet_run_falls_quiet.ensures c.args.self.now c.every_world_is_kept.ensures.sound
     c.every_world_is_kept.ensures.peers closed
-    (map as_happening (take c.apply_each-ended.result.0 c.args.list.now)) clean
+    (map as_happening (take c.apply_up_to_fault-ended.result.0 c.args.list.now)) clean
 
 pub returns-clause-can_fall_quiet : goal.returns-clause-can_fall_quiet
 returns-clause-can_fall_quiet c closed clean =
-    c.each_octet_run_can_fall_quiet.ensures c.args.self.now c.every_world_is_kept.ensures.sound
+    c.each_clean_octet_run_can_fall_quiet.ensures c.args.self.now c.every_world_is_kept.ensures.sound
     c.every_world_is_kept.ensures.peers closed
-    (map as_happening (take c.apply_each-ended.result.0 c.args.list.now)) clean
+    (map as_happening (take c.apply_up_to_fault-ended.result.0 c.args.list.now)) clean

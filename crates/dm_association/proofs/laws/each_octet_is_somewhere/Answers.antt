@@ -1,6 +1,0 @@
--- The law as it is proved for accounts.
-use Rattle.dm_association.proofs.ChunkAccounting.{each_accounted}
-use Rattle.dm_association.proofs.laws.each_octet_is_somewhere.Goals as goal
-
-pub returns : goal.returns
-returns c = each_accounted

@@ -1,6 +1,0 @@
--- The law as it is proved for user messages.
-use Rattle.dm_association.proofs.OneMessage.{one_user_message}
-use Rattle.dm_association.proofs.laws.one_user_message.Goals as goal
-
-pub returns : goal.returns
-returns c = one_user_message

@@ -1,6 +1,0 @@
--- The law as it is proved for lists of chunks.
-use Rattle.dm_association.proofs.OrderOfChunks.{order_changes_nothing}
-use Rattle.dm_association.proofs.laws.order_changes_nothing.Goals as goal
-
-pub returns : goal.returns
-returns c = order_changes_nothing

@@ -1,6 +1,0 @@
--- The law as it is proved.
-use Rattle.dm_associations.proofs.Packets.{foreign_packets}
-use Rattle.dm_associations.proofs.laws.foreign_packets_change_nothing.Goals as goal
-
-pub returns : goal.returns
-returns c = foreign_packets

@@ -1,6 +1,0 @@
--- The law as it is proved for runs of items.
-use Rattle.dm_capture.proofs.Readings.{one_reading}
-use Rattle.dm_capture.proofs.laws.one_reading.Goals as goal
-
-pub returns : goal.returns
-returns c = one_reading

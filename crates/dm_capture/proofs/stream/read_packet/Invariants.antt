@@ -1,6 +1,0 @@
--- So far octets were taken from the reader, and items passed that hold no packet.
-use Rattle.dm_capture.proofs.Streaming.{Ongoing}
-use Rattle.dm_capture.proofs.stream.read_packet.Given as goal
-
-abbrev pub invariant-piece : goal.invariant-piece
-invariant-piece g l = Ongoing l.fn.capture (g.R.Read.remaining l.fn.reader) l.capture (g.R.Read.remaining l.reader)

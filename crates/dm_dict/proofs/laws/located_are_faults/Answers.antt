@@ -1,5 +1,0 @@
-use Rattle.dm_dict.proofs.Located.{located_are_faults}
-use Rattle.dm_dict.proofs.laws.located_are_faults.Goals as goal
-
-pub returns : goal.returns
-returns c = located_are_faults

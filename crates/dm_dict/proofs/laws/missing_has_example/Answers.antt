@@ -1,6 +1,0 @@
--- The law as it is proved for rules.
-use Rattle.dm_dict.proofs.Exemplified.{missing_examples}
-use Rattle.dm_dict.proofs.laws.missing_has_example.Goals as goal
-
-pub returns : goal.returns
-returns c = missing_examples

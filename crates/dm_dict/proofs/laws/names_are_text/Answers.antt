@@ -1,5 +1,0 @@
-use Rattle.dm_dict.proofs.Texts.{names_are_text}
-use Rattle.dm_dict.proofs.laws.names_are_text.Goals as goal
-
-pub returns : goal.returns
-returns c = names_are_text

@@ -1,6 +1,0 @@
--- The law as it is proved for lists.
-use Rattle.dm_dict.proofs.OpenFaults.{open_differs}
-use Rattle.dm_dict.proofs.laws.open_differs_in_lists_alone.Goals as goal
-
-pub returns : goal.returns
-returns c = open_differs

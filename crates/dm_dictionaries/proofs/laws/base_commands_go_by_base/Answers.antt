@@ -1,5 +1,0 @@
-use Rattle.dm_dictionaries.proofs.Chosen.{base_by_base}
-use Rattle.dm_dictionaries.proofs.laws.base_commands_go_by_base.Goals as goal
-
-pub returns : goal.returns
-returns c = base_by_base

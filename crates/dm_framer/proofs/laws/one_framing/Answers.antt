@@ -1,6 +1,0 @@
--- The law as it is proved for framings.
-use Rattle.dm_framer.proofs.Framings.{one_framing}
-use Rattle.dm_framer.proofs.laws.one_framing.Goals as goal
-
-pub returns : goal.returns
-returns c = one_framing

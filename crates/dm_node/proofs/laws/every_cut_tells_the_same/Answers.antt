@@ -1,0 +1,42 @@
+-- The laws as they are proved for tellings.
+use Rattle.dm_node.proofs.Newcomers.{PeerLaws}
+use Rattle.dm_node.proofs.NodeCuts.{cuts_alike}
+use Rattle.dm_node.proofs.NodeOnce.{wholly, told_out_once, pieces_told_out}
+use Rattle.dm_node.proofs.laws.every_cut_tells_the_same.Goals as goal
+
+pub returns-clause-once : goal.returns-clause-once
+returns-clause-once c = λ policy d s t u turns others sound h out k also.
+    let laws : PeerLaws = record {
+      step = c.done_events_are_steps_or_drops.ensures;
+      fresh = c.each_event_keeps_peers_settled.ensures.fresh;
+      settled = c.each_event_keeps_peers_settled.ensures.kept;
+      alone = c.ceas_open_and_what_is_given_up_is_closed.ensures.alone;
+      gives_up = c.ceas_open_and_what_is_given_up_is_closed.ensures.closed;
+    } in
+    told_out_once c.at_most_one_frame_is_in_front.ensures.frame c.at_most_one_frame_is_in_front.ensures.either laws policy d s t u turns others
+    (wholly s.peers sound) h out k also
+
+pub returns-clause-cut : goal.returns-clause-cut
+returns-clause-cut c = λ policy d piece more s m t u first others whole sound h k out all also.
+    let laws : PeerLaws = record {
+      step = c.done_events_are_steps_or_drops.ensures;
+      fresh = c.each_event_keeps_peers_settled.ensures.fresh;
+      settled = c.each_event_keeps_peers_settled.ensures.kept;
+      alone = c.ceas_open_and_what_is_given_up_is_closed.ensures.alone;
+      gives_up = c.ceas_open_and_what_is_given_up_is_closed.ensures.closed;
+    } in
+    told_out_once c.at_most_one_frame_is_in_front.ensures.frame c.at_most_one_frame_is_in_front.ensures.either laws policy d _ t u _ whole
+    (wholly s.peers sound) (cuts_alike c.at_most_one_frame_is_in_front.ensures.fault policy d piece more s m t first others h k) out all
+    also
+
+pub returns-clause-pieces : goal.returns-clause-pieces
+returns-clause-pieces c = λ policy d pieces s t u turns whole sound h out k also.
+    let laws : PeerLaws = record {
+      step = c.done_events_are_steps_or_drops.ensures;
+      fresh = c.each_event_keeps_peers_settled.ensures.fresh;
+      settled = c.each_event_keeps_peers_settled.ensures.kept;
+      alone = c.ceas_open_and_what_is_given_up_is_closed.ensures.alone;
+      gives_up = c.ceas_open_and_what_is_given_up_is_closed.ensures.closed;
+    } in
+    pieces_told_out c.at_most_one_frame_is_in_front.ensures.frame c.at_most_one_frame_is_in_front.ensures.either c.at_most_one_frame_is_in_front.ensures.fault laws policy d pieces
+    s t u turns whole (wholly s.peers sound) h out k also

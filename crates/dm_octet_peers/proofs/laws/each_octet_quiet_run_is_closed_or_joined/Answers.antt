@@ -1,0 +1,13 @@
+use Rattle.dm_octet_peers.proofs.CanOpen.{run_is_joined}
+use Rattle.dm_octet_peers.proofs.laws.each_octet_quiet_run_is_closed_or_joined.Goals as goal
+
+pub returns : goal.returns
+returns c =
+    run_is_joined
+    (record {
+      machine = c.octet_peers_move_as_the_machine.ensures;
+      closed = c.closed_peers_make_a_sound_world.ensures;
+      sounds = c.each_happening_keeps_worlds_sound.ensures;
+      fresh = c.each_happening_keeps_peers_paired.ensures.fresh;
+      keeps = c.each_happening_keeps_peers_paired.ensures.kept;
+    }) c.quiet_octet_peers_are_closed_or_joined.ensures

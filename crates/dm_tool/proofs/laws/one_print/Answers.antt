@@ -1,5 +1,0 @@
-use Rattle.std.proofs.Common.{refl}
-use Rattle.dm_tool.proofs.laws.one_print.Goals as goal
-
-pub returns : goal.returns
-returns c = record { avp = λ a. refl; header = λ h. refl; verdict = λ v. refl }

@@ -1,5 +1,0 @@
-use Rattle.dm_two_peers.proofs.KindLemmas.{kinds_are_a_machine_proof}
-use Rattle.dm_two_peers.proofs.laws.kinds_are_a_machine.Goals as goal
-
-pub returns : goal.returns
-returns c = kinds_are_a_machine_proof

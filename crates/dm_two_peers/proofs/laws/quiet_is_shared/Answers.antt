@@ -1,5 +1,0 @@
-use Rattle.dm_two_peers.proofs.Sharing.{quiet_is_shared_proof}
-use Rattle.dm_two_peers.proofs.laws.quiet_is_shared.Goals as goal
-
-pub returns : goal.returns
-returns g c = quiet_is_shared_proof

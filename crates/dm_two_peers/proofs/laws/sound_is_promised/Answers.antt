@@ -1,5 +1,0 @@
-use Rattle.dm_two_peers.proofs.Promise.{promised_proof}
-use Rattle.dm_two_peers.proofs.laws.sound_is_promised.Goals as goal
-
-pub returns : goal.returns
-returns g c = λ m w good. promised_proof m w good

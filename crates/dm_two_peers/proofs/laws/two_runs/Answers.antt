@@ -1,5 +1,0 @@
-use Rattle.dm_two_peers.proofs.KindLemmas.{two_runs_proof}
-use Rattle.dm_two_peers.proofs.laws.two_runs.Goals as goal
-
-pub returns : goal.returns
-returns c = two_runs_proof

@@ -1,6 +1,0 @@
--- The law as it is proved for flaws.
-use Rattle.dm_value.proofs.Valued.{decides}
-use Rattle.dm_value.proofs.laws.flaw_decides.Goals as goal
-
-pub returns : goal.returns
-returns c = decides c.members_spell.ensures

@@ -1,6 +1,0 @@
--- The law as it is proved for meanings.
-use Rattle.dm_value.proofs.Meanings.{one_type}
-use Rattle.dm_value.proofs.laws.one_type.Goals as goal
-
-pub returns : goal.returns
-returns c = one_type

@@ -1,6 +1,0 @@
-use Rattle.dm_view.specs.Clean.{CleanBetween}
-use Rattle.dm_view.proofs.clean.are_clean_singly.Given as goal
-
--- the octets so far
-abbrev pub invariant-octets : goal.invariant-octets
-invariant-octets l = CleanBetween l.least l.octets 0 l.i

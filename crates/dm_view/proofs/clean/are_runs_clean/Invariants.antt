@@ -1,7 +1,0 @@
-use Rattle.std.proofs.Common.{◌*◌}
-use Rattle.dm_view.specs.Clean.{CleanBetween}
-use Rattle.dm_view.proofs.clean.are_runs_clean.Given as goal
-
--- the runs so far
-abbrev pub invariant-runs : goal.invariant-runs
-invariant-runs l = CleanBetween l.least l.octets 0 (16 * l.k)

@@ -1,0 +1,6 @@
+-- The law as it is proved for spellings.
+use Rattle.dm_wire.proofs.RoundTrips.{canonical_header_spelled}
+use Rattle.dm_wire.proofs.laws.canonical_octets_spell_header.Goals as goal
+
+pub returns : goal.returns
+returns c = canonical_header_spelled

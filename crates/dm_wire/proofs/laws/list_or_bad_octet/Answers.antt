@@ -1,6 +1,0 @@
--- The law as it is proved for spellings.
-use Rattle.dm_wire.proofs.Existence.{list_or_bad}
-use Rattle.dm_wire.proofs.laws.list_or_bad_octet.Goals as goal
-
-pub returns : goal.returns
-returns c = list_or_bad
