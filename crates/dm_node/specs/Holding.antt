@@ -3,6 +3,8 @@ use Rattle.std.specs.Prelude.{◌≡◌, ℕ, Bool, true, false, Option, None, S
 use Rattle.std.specs.Option.{option_flatten}
 use Rattle.dm_base.specs.Before.{lower}
 use Rattle.dm_machine.specs.declared.connection.Conn.{Conn}
+use Rattle.dm_machine.specs.Connection.{hold_of}
+use Rattle.dm_machine.specs.Upward.{is_open_hold}
 use Rattle.dm_peer.specs.declared.peer.Peer.{Peer}
 pub use Rattle.dm_peer.specs.Holding.{is_held, holds}
 
@@ -17,6 +19,14 @@ holds_it c (Some p) = holds c p
 -- the neighbour of a number holds the connection
 abbrev pub holds_at : List (Option Peer) → Conn → ℕ → Bool
 holds_at ps c i = holds_it c (peer_at ps i)
+
+abbrev pub is_opened_on : Conn → Option Peer → Bool
+is_opened_on c None = false
+is_opened_on c (Some p) = is_open_hold (hold_of p.standing.core c)
+
+-- the neighbour of a number is open on the connection (RFC 6733, 5.6: R-Open, I-Open)
+abbrev pub is_open_at : List (Option Peer) → Conn → ℕ → Bool
+is_open_at ps c i = is_opened_on c (peer_at ps i)
 
 abbrev pub host_of : Option Peer → Option (List ℕ)
 host_of None = None

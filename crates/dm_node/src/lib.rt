@@ -19,6 +19,7 @@ mod newcomer;
 mod node;
 mod offered_config;
 mod one_told;
+mod open_connection;
 mod order;
 mod owners;
 mod peer_by_number;

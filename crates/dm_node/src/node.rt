@@ -6,6 +6,7 @@ ghost use Rattle.dm_node.specs.NodeKnown.{known_of, AreKnown};
 
 use crate::acquaintances::Acquaintances;
 use crate::neighbours::Neighbours;
+use crate::open_connection::open_connection;
 use crate::settling::settle_connections;
 use crate::telling::{tell_event, tell_message};
 use crate::{Answer, NodeEvent, Strangers, Told};
@@ -41,7 +42,7 @@ impl Node {
     ghost use Rattle.dm_base.specs.Before.{lower};
     ghost use Rattle.dm_peer.specs.Spelled.{SendsSpelling};
     ghost use Rattle.dm_peer.specs.declared.peer.Peer.{Peer};
-    ghost use Rattle.dm_node.specs.Holding.{peer_at, host_at, holds_at};
+    ghost use Rattle.dm_node.specs.Holding.{peer_at, host_at, holds_at, is_open_at};
     ghost use Rattle.dm_node.specs.Telling.{IsFree};
     ghost use Rattle.dm_slots.specs.Acquaintances.{known_after};
     ghost use Rattle.dm_slots.specs.Hearing.{TakesFrontAt};
@@ -104,6 +105,19 @@ impl Node {
             ≡ option_map (λ p. p.standing.core.state) (peer_at (node_state_of self.now).peers index) }
     {
         self.neighbours.state_of(index)
+    }
+
+    /// The connection on which the neighbour of this number is open, in R-Open or I-Open (RFC 6733, 5.6); None where it
+    /// isn't open, and where no neighbour has the number. It never answers want of memory.
+    pub fn open_on(&self, index: usize) -> Option<Conn>
+        ensures found { IfSome result (λ conn. is_open_at (node_state_of self.now).peers conn index ≡ true) }
+        ensures none { IfNone result ((conn : Conn)
+            → is_open_at (node_state_of self.now).peers conn index ≡ false) }
+    {
+        match self.neighbours.peer(index) {
+            Some(peer) => open_connection(peer),
+            None => None,
+        }
     }
 
     /// The neighbours in order of adding; None where one was removed. It never answers want of memory.

@@ -66,6 +66,7 @@ fn assert_taken(rt: &(impl Abort + AllocGlobal)) {
     assert!(rt; are_removed(&mut node));
     assert_cases(rt, &mut node, TAKEN_AGAIN);
     assert!(rt; node.state_of(2) == Some(State::ROpen) && node.find(b"B.example") == Some(2));
+    assert!(rt; node.open_on(2) == Some(Conn(14)) && node.open_on(0).is_none());
     drop(node);
 }
 
