@@ -18,7 +18,7 @@ pub fn octets_of_chunks_add_up()
 /// What is handed out of a direction, while its association isn't left, are just the user messages of its chunks of
 /// Diameter from the first TSN on, each once: of each TSN the chunk that came first counts, in whatever order they come
 /// and however often.
-pub fn each_user_message_is_handed_out()
+pub fn exactly_user_messages_are_handed_out()
     ensures { EachUserMessageIsHandedOut }
 {}
 

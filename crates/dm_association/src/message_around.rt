@@ -1,12 +1,14 @@
-//! The user message that a chunk completes, among those that wait (RFC 9260, 6.9).
-ghost use Rattle.std.specs.Prelude.{◌≡◌, ◌<◌, ◌≤◌, ◌+◌, ◌&&◌, false, length, max, cond, IfSome, IfNone};
-ghost use Rattle.dm_association.specs.Fragments.{IsUserMessage};
+//! The user message that a chunk completes, with the fragments that wait for it (RFC 9260, 6.9).
+ghost use Rattle.std.specs.Prelude.{◌≡◌, ◌<◌, ◌≤◌, ◌+◌, ◌++◌, ◌&&◌, false, length, max, cond};
+ghost use Rattle.std.specs.Prelude.{IfOk, IfSome, IfNone, OnOk};
+ghost use Rattle.dm_association.specs.Fragments.{IsUserMessage, user_message};
 ghost use Rattle.dm_association.specs.MessageRuns.{IsRunAround};
-ghost use Rattle.dm_association.specs.TsnWindows.{marks_with, CompletesNone};
+ghost use Rattle.dm_association.specs.TsnWindows.{marks_with, octets_with, CompletesNone};
 
 use crate::marks::ChunkMarks;
 use crate::tsn_state::TsnState;
-use crate::tsns::fragment_marks_at;
+use crate::tsns::{fragment_marks_at, fragment_octets_at};
+use std::alloc::{AllocError, Global};
 use std::collections::VecDeque;
 
 /// A user message: so many chunks from the first on.
@@ -145,4 +147,41 @@ pub(crate) fn completed_message_extent(
         first: run.first,
         count: run.last - run.first + 1,
     })
+}
+
+/// Appends the octets that wait at the place `index`; at `place`, those of the chunk that belongs there.
+fn push_chunk_octets(
+    message: &mut Vec<u8>,
+    tsns: &VecDeque<TsnState>,
+    place: usize,
+    octets: &[u8],
+    index: usize,
+) -> Result<(), AllocError>
+    ensures { OnOk result (message.new.items
+        ≡ message.old.items ++ octets_with tsns.now.items place octets.now index) }
+{
+    if index == place {
+        message.extend_from_slice(octets)
+    } else {
+        message.extend_from_slice(fragment_octets_at(tsns, index))
+    }
+}
+
+/// The user message at this extent, which is complete with these octets at a place.
+pub(crate) fn completed_message(
+    alloc: Global,
+    tsns: &VecDeque<TsnState>,
+    place: usize,
+    octets: &[u8],
+    extent: MessageExtent,
+) -> Result<Vec<u8>, AllocError>
+    requires { extent.first + extent.count ≤ 65536 }
+    ensures { IfOk result (λ message. message.items
+        ≡ user_message (octets_with tsns.now.items place octets.now) extent.first extent.count) }
+{
+    let mut message = Vec::new(alloc);
+    'chunks: for index in 0..extent.count {
+        push_chunk_octets(&mut message, tsns, place, octets, extent.first + index)?;
+    }
+    Ok(message)
 }

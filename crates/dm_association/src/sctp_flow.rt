@@ -2,13 +2,12 @@
 ghost use Rattle.std.specs.Prelude.{◌≡◌, ◌≤◌, true, None, Some, length, IfOk, IfSome, IfNone, OnErr};
 ghost use Rattle.dm_flows.specs.Flows.{more_passed};
 ghost use Rattle.dm_flows.specs.Sctps.{data_seen};
-ghost use Rattle.dm_association.specs.Fragments.{chunk_marks};
 ghost use Rattle.dm_association.specs.SctpFlows.{new_sctp_flow, is_clear_text, without_chunk, waiting_in_flow};
 ghost use Rattle.dm_association.specs.SctpFlows.{association_left, begun_at_tsn, place_in_flow, may_begin_with};
 ghost use Rattle.dm_association.specs.SctpFlows.{HasRoomInFlow, TakesWanted, BeginsWithChunk, TakesChunk, LeavesChunk};
 
 use crate::chunk_place::ChunkPlace;
-use crate::marks::ChunkMarks;
+use crate::marks::marks_of_chunk;
 use crate::tsn_window::{MOST_WAITING, TsnWindow};
 use dm_flows::DataChunk;
 use std::alloc::{AllocError, Global};
@@ -64,20 +63,9 @@ fn may_be_diameter(protocol: u32) -> bool
     protocol == DIAMETER || protocol == NO_IDENTIFIER
 }
 
-/// The B and E bits of a DATA chunk, and its stream.
-fn marks_of_chunk(chunk: DataChunk<'_>) -> ChunkMarks
-    ensures { result ≡ chunk_marks (data_seen chunk.entry) }
-{
-    ChunkMarks {
-        beginning: chunk.beginning,
-        ending: chunk.ending,
-        stream: chunk.stream,
-    }
-}
-
-/// Whether an association may begin with this chunk, without an INIT: it begins a user message, and is no longer than
-/// what may wait.
-fn may_begin_association(chunk: DataChunk<'_>) -> bool
+/// Whether an association may begin with this chunk, without an INIT: it begins a user message, of whatever protocol,
+/// and is no longer than what may wait.
+fn begins_message_that_fits(chunk: DataChunk<'_>) -> bool
     ensures { result ≡ may_begin_with (data_seen chunk.entry) }
 {
     chunk.beginning && chunk.user_data.len() <= MOST_WAITING
@@ -117,7 +105,7 @@ impl SctpFlow {
 
     /// How many octets of Diameter over DTLS came, up to 2^64 - 1 (RFC 6733, 11.5: 47). They aren't read. It never
     /// answers want of memory.
-    pub fn octets_secured(&self) -> u64
+    pub fn octets_of_dtls(&self) -> u64
         ensures { result ≡ self.now.secured }
     {
         self.secured
@@ -165,7 +153,7 @@ impl SctpFlow {
         match self.place_of_chunk(chunk) {
             ChunkPlace::Wanted(at) => self.take_or_count_chunk_at(at, chunk),
             ChunkPlace::Repeated => Ok(None),
-            ChunkPlace::Astray => self.begin_association_or_pass(chunk),
+            ChunkPlace::Astray => self.restart_or_end_association(chunk),
         }
     }
 
@@ -217,7 +205,7 @@ impl SctpFlow {
 
     /// Leaves the association, and begins one with the chunk where that begins a message; else it is passed over.
     /// It answers the user message that is whole with it, or None.
-    fn begin_association_or_pass(
+    fn restart_or_end_association(
         &mut self,
         chunk: DataChunk<'_>,
     ) -> Result<Option<Vec<u8>>, AllocError>
@@ -228,7 +216,7 @@ impl SctpFlow {
         ensures left { OnErr result ((may_begin_with (data_seen chunk.entry) ≡ true)
             × (self.new ≡ begun_at_tsn self.old (data_seen chunk.entry).tsn)) }
     {
-        if !may_begin_association(chunk) {
+        if !begins_message_that_fits(chunk) {
             self.end_association();
             self.count_unread_chunk(chunk);
             return Ok(None);

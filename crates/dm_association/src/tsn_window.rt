@@ -7,10 +7,10 @@ ghost use Rattle.dm_association.specs.TsnWindows.{CompletesMessage, HoldsFragmen
 use crate::chunk_place::ChunkPlace;
 use crate::fragment::Fragment;
 use crate::marks::ChunkMarks;
-use crate::message_around::{MessageExtent, completed_message_extent};
+use crate::message_around::{MessageExtent, completed_message, completed_message_extent};
 use crate::tsn_state::TsnState;
 use crate::tsns::{
-    completed_message, drop_done_tsns, grow_tsns, is_tsn_missing_at, mark_extent_done, set_fragment,
+    drop_done_front_tsns, grow_tsns, is_tsn_missing_at, mark_extent_done, set_fragment,
 };
 use std::alloc::{AllocError, Global};
 use std::collections::VecDeque;
@@ -90,8 +90,9 @@ impl TsnWindow {
         }
     }
 
-    /// Of how many TSNs, from the first that isn't done on, a chunk may be taken.
-    fn most_tsns_ahead(&self) -> usize
+    /// How many TSNs the window has, from the first that isn't done on: a chunk of one of these may be taken. It grows
+    /// with what came.
+    fn window_end(&self) -> usize
         ensures { result ≡ reach self.now.tsns }
     {
         SPAN.min(self.tsns.len() + GAP)
@@ -102,7 +103,7 @@ impl TsnWindow {
         ensures { result ≡ chunk_place self.now tsn size }
     {
         let at = tsn.wrapping_sub(self.next) as usize;
-        if at < self.most_tsns_ahead() {
+        if at < self.window_end() {
             self.place_in_window(at, size)
         } else {
             self.place_outside_window(tsn)
@@ -119,7 +120,7 @@ impl TsnWindow {
         grow_tsns(&mut self.tsns, extent.first + extent.count)?;
         let freed = mark_extent_done(&mut self.tsns, extent);
         self.waiting -= freed;
-        self.next = drop_done_tsns(&mut self.tsns, self.next);
+        self.next = drop_done_front_tsns(&mut self.tsns, self.next);
         Ok(())
     }
 

@@ -1,14 +1,13 @@
 //! What came of TSNs, one after the other from the first that isn't done.
-ghost use Rattle.std.specs.Prelude.{◌≡◌, ◌<◌, ◌≤◌, ◌+◌, ◌++◌, ℕ, length, max, slice_set, IfOk, OnOk, OnErr};
-ghost use Rattle.dm_association.specs.Fragments.{user_message};
+ghost use Rattle.std.specs.Prelude.{◌≡◌, ◌<◌, ◌≤◌, ◌+◌, ℕ, length, max, slice_set, OnOk, OnErr};
 ghost use Rattle.dm_association.specs.TsnWindows.{tsn_at, is_missing, is_tsn_done, held_marks, slot_octets};
-ghost use Rattle.dm_association.specs.TsnWindows.{waiting_octets, octets_with, AreDone, PassesDone};
+ghost use Rattle.dm_association.specs.TsnWindows.{waiting_octets, AreDone, PassesDone};
 
 use crate::fragment::Fragment;
 use crate::marks::ChunkMarks;
 use crate::message_around::MessageExtent;
 use crate::tsn_state::TsnState;
-use std::alloc::{AllocError, Global};
+use std::alloc::AllocError;
 use std::collections::VecDeque;
 use std::mem;
 
@@ -34,50 +33,13 @@ pub(crate) fn is_tsn_missing_at(tsns: &VecDeque<TsnState>, at: usize) -> bool
 }
 
 /// The octets of the fragment that waits at a place; none where none waits there.
-fn fragment_octets_at(tsns: &VecDeque<TsnState>, at: usize) -> &[u8]
+pub(crate) fn fragment_octets_at(tsns: &VecDeque<TsnState>, at: usize) -> &[u8]
     ensures { result.now ≡ slot_octets (tsn_at tsns.now.items at) }
 {
     match tsns.get(at) {
         Some(TsnState::Held(fragment)) => fragment.octets(),
         _ => &[],
     }
-}
-
-/// Appends the octets that wait at the place `index`; at `place`, those of the chunk that belongs there.
-fn push_chunk_octets(
-    message: &mut Vec<u8>,
-    tsns: &VecDeque<TsnState>,
-    place: usize,
-    octets: &[u8],
-    index: usize,
-) -> Result<(), AllocError>
-    ensures { OnOk result (message.new.items
-        ≡ message.old.items ++ octets_with tsns.now.items place octets.now index) }
-{
-    if index == place {
-        message.extend_from_slice(octets)
-    } else {
-        message.extend_from_slice(fragment_octets_at(tsns, index))
-    }
-}
-
-/// The user message at this extent, which is complete with these octets at a place.
-pub(crate) fn completed_message(
-    alloc: Global,
-    tsns: &VecDeque<TsnState>,
-    place: usize,
-    octets: &[u8],
-    extent: MessageExtent,
-) -> Result<Vec<u8>, AllocError>
-    requires { extent.first + extent.count ≤ 65536 }
-    ensures { IfOk result (λ message. message.items
-        ≡ user_message (octets_with tsns.now.items place octets.now) extent.first extent.count) }
-{
-    let mut message = Vec::new(alloc);
-    'chunks: for index in 0..extent.count {
-        push_chunk_octets(&mut message, tsns, place, octets, extent.first + index)?;
-    }
-    Ok(message)
 }
 
 /// Makes room up to so many TSNs, or answers want of memory and changes nothing.
@@ -138,7 +100,7 @@ fn is_front_done(tsns: &VecDeque<TsnState>) -> bool
 }
 
 /// Drops the TSNs at the front that are done, the first of which is `from`, and answers the first TSN behind them.
-pub(crate) fn drop_done_tsns(tsns: &mut VecDeque<TsnState>, from: u32) -> u32
+pub(crate) fn drop_done_front_tsns(tsns: &mut VecDeque<TsnState>, from: u32) -> u32
     ensures passes { PassesDone (record { next = from; tsns = tsns.old.items })
         (record { next = result; tsns = tsns.new.items }) }
     ensures waiting { waiting_octets tsns.new.items ≡ waiting_octets tsns.old.items }

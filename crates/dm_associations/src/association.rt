@@ -64,12 +64,12 @@ impl Association {
     }
 
     /// How many octets of Diameter over DTLS came in both directions, up to 2^64 - 1. It never answers want of memory.
-    pub fn octets_secured_both_ways(&self) -> u64
+    pub fn octets_of_dtls_both_ways(&self) -> u64
         ensures { result ≡ secured_by self.now }
     {
         self.forth
-            .octets_secured()
-            .saturating_add(self.back.octets_secured())
+            .octets_of_dtls()
+            .saturating_add(self.back.octets_of_dtls())
     }
 
     /// How many octets are held in both directions, up to 2^64 - 1: those that wait for others of their messages, and
@@ -82,7 +82,7 @@ impl Association {
             .saturating_add(self.back.octets_held())
     }
 
-    /// Takes a packet that came from the first end, or else from the second one.
+    /// Takes a packet that came from the first end; one of any other source is taken as one from the second.
     ///
     /// One whose Verification Tag isn't that of its direction changes nothing, nor does one that comes behind an ABORT
     /// or a SHUTDOWN COMPLETE. An INIT begins a new association, unless it is the same INIT again: both directions

@@ -40,7 +40,7 @@ impl TwoWay for Association {
 
     ghost new_holds_none = { Prim.search rules };
 
-    fn new_between(alloc: Global, ends: Ends, _max: u32) -> Association {
+    fn new_between(alloc: Global, ends: Ends, _max_message_len: u32) -> Association {
         Association::new(alloc, ends.first, ends.second)
     }
 
@@ -48,15 +48,15 @@ impl TwoWay for Association {
         self.octets_passed_over_both_ways()
     }
 
-    fn octets_secured(&self) -> u64 {
-        self.octets_secured_both_ways()
+    fn octets_of_dtls(&self) -> u64 {
+        self.octets_of_dtls_both_ways()
     }
 
     fn octets_held(&self) -> u64 {
         self.octets_held_both_ways()
     }
 
-    fn octets_pending(&self) -> u64 {
+    fn octets_held_that_came(&self) -> u64 {
         self.octets_held_both_ways()
     }
 
@@ -82,14 +82,14 @@ impl<'a> Takes<SctpPacket<'a>> for Association {
 
     ghost LeavesSent = { λ before packet after. LeavesAssociation before (sctp_seen packet) after };
 
-    fn ends_of(sent: SctpPacket<'a>) -> Ends {
+    fn sender_and_receiver_of(sent: SctpPacket<'a>) -> Ends {
         Ends {
             first: sent.source,
             second: sent.destination,
         }
     }
 
-    fn begins_exchange_request(sent: SctpPacket<'a>) -> bool {
+    fn exchange_request_begins_in(sent: SctpPacket<'a>) -> bool {
         any_chunk_begins_exchange_request(sent.chunks)
     }
 

@@ -6,7 +6,7 @@ use dm_association::laws::octets_of_chunks_add_up as each_octet_of_a_flow;
 
 /// A packet with another Verification Tag than that of its direction, where that is known, changes nothing, if it is no
 /// INIT, INIT ACK, ABORT or SHUTDOWN COMPLETE.
-pub fn packets_with_another_tag_change_nothing()
+pub fn data_with_another_tag_changes_nothing()
     ensures { ForeignPacketsChangeNothing }
 {}
 

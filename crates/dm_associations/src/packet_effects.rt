@@ -14,7 +14,7 @@ use std::alloc::AllocError;
 
 /// Whether a packet with this Verification Tag is of the association: that hasn't ended, and `known`, the tag of the
 /// direction, is this one or None (RFC 9260, 8.4 and 8.5).
-fn is_of_association(known: Option<u32>, ended: bool, tag: u32) -> bool
+fn is_tag_of_association(known: Option<u32>, ended: bool, tag: u32) -> bool
     ensures { result ≡ is_own_packet tag known ended }
 {
     match known {
@@ -28,7 +28,7 @@ fn is_of_association(known: Option<u32>, ended: bool, tag: u32) -> bool
 fn is_repeated_init(other: &SctpWay, ended: bool, init: Init) -> bool
     ensures { result ≡ is_init_again init (record { own = other.now; other = other.now; ended = ended }) }
 {
-    match other.tag() {
+    match other.verification_tag() {
         Some(tag) => !ended && tag == init.initiate_tag,
         None => false,
     }
@@ -41,7 +41,7 @@ fn apply_init(own: &mut SctpWay, other: &mut SctpWay, init: Init)
     ensures other { other.new ≡ record other.old { tag = Some init.initiate_tag } }
 {
     own.begin_association(init.initial_tsn);
-    other.set_tag(Some(init.initiate_tag));
+    other.set_verification_tag(Some(init.initiate_tag));
 }
 
 /// Takes an INIT, in a packet with this tag: a new association begins, but for a tag other than 0, or where the INIT is
@@ -53,7 +53,7 @@ fn take_init(own: &mut SctpWay, other: &mut SctpWay, ended: &mut bool, init: Ini
     if tag != 0 || is_repeated_init(other, *ended, init) {
         return;
     }
-    own.set_tag(None);
+    own.set_verification_tag(None);
     other.end_association();
     apply_init(own, other, init);
     *ended = false;
@@ -65,29 +65,43 @@ fn take_init_ack(own: &mut SctpWay, other: &mut SctpWay, ended: bool, init: Init
     ensures { record { own = own.new; other = other.new; ended = ended }
         ≡ after_answer init tag (record { own = own.old; other = other.old; ended = ended }) }
 {
-    if !is_of_association(own.tag(), ended, tag) {
+    if !is_tag_of_association(own.verification_tag(), ended, tag) {
         return;
     }
-    own.set_tag(Some(tag));
-    if other.tag().is_none() {
+    own.set_verification_tag(Some(tag));
+    if other.verification_tag().is_none() {
         apply_init(own, other, init);
     }
 }
 
 /// The Verification Tag of a packet with an ABORT or a SHUTDOWN COMPLETE, where it is of the association: with the T
 /// bit, `reflected`, that of the other direction; None where it isn't known (RFC 9260, 8.5.1).
-fn tag_of_ending(own: &SctpWay, other: &SctpWay, reflected: bool) -> Option<u32>
+fn expected_tag_of_association_end(own: &SctpWay, other: &SctpWay, reflected: bool) -> Option<u32>
     ensures { result ≡ ending_tag reflected own.now other.now }
 {
-    if reflected { other.tag() } else { own.tag() }
+    if reflected {
+        other.verification_tag()
+    } else {
+        own.verification_tag()
+    }
 }
 
 /// Takes an ABORT or a SHUTDOWN COMPLETE, in a packet with this tag: both directions end, if it is of the association.
-fn take_ending(own: &mut SctpWay, other: &mut SctpWay, ended: &mut bool, reflected: bool, tag: u32)
+fn take_association_end(
+    own: &mut SctpWay,
+    other: &mut SctpWay,
+    ended: &mut bool,
+    reflected: bool,
+    tag: u32,
+)
     ensures { record { own = own.new; other = other.new; ended = ended.new }
         ≡ after_ending reflected tag (record { own = own.old; other = other.old; ended = ended.old }) }
 {
-    if !is_of_association(tag_of_ending(own, other, reflected), *ended, tag) {
+    if !is_tag_of_association(
+        expected_tag_of_association_end(own, other, reflected),
+        *ended,
+        tag,
+    ) {
         return;
     }
     own.end_association();
@@ -104,10 +118,10 @@ fn take_data_and_tag(
     ensures taken { OnOk result (TakesCarried own.old ended (sctp_seen packet.entry) own.new) }
     ensures left { OnErr result (LeavesCarried own.old ended (sctp_seen packet.entry) own.new) }
 {
-    if !is_of_association(own.tag(), ended, packet.verification_tag) {
+    if !is_tag_of_association(own.verification_tag(), ended, packet.verification_tag) {
         return Ok(());
     }
-    own.set_tag(Some(packet.verification_tag));
+    own.set_verification_tag(Some(packet.verification_tag));
     own.take_data_chunks(packet.chunks)
 }
 
@@ -127,7 +141,7 @@ pub(crate) fn take_packet_in_direction(
     match read_front_chunk(packet.chunks) {
         Front::Begins(init) => take_init(own, other, ended, init, tag),
         Front::Answers(init) => take_init_ack(own, other, *ended, init, tag),
-        Front::Ends(reflected) => take_ending(own, other, ended, reflected, tag),
+        Front::Ends(reflected) => take_association_end(own, other, ended, reflected, tag),
         Front::Carries => return take_data_and_tag(own, *ended, packet),
     }
     Ok(())

@@ -48,14 +48,14 @@ impl SctpWay {
     }
 
     /// The Verification Tag of the packets of this direction; None where it isn't known.
-    pub(crate) fn tag(&self) -> Option<u32>
+    pub(crate) fn verification_tag(&self) -> Option<u32>
         ensures { result ≡ self.now.tag }
     {
         self.tag
     }
 
     /// Sets the Verification Tag of this direction, or forgets it.
-    pub(crate) fn set_tag(&mut self, tag: Option<u32>)
+    pub(crate) fn set_verification_tag(&mut self, tag: Option<u32>)
         ensures { self.new ≡ record self.old { tag = tag } }
     {
         self.tag = tag;
@@ -69,10 +69,10 @@ impl SctpWay {
     }
 
     /// How many octets of Diameter over DTLS came, up to 2^64 - 1.
-    pub(crate) fn octets_secured(&self) -> u64
+    pub(crate) fn octets_of_dtls(&self) -> u64
         ensures { result ≡ self.now.flow.secured }
     {
-        self.flow.octets_secured()
+        self.flow.octets_of_dtls()
     }
 
     /// How many octets are held, up to 2^64 - 1: those that wait for others of their messages, and those of whole

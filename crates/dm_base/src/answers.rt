@@ -11,10 +11,10 @@ ghost use Rattle.dm_base.specs.Built.{built_cea, built_answer, built_error};
 use crate::Node;
 use crate::codes::RESULT_CODE;
 use crate::headers::header_of_answer;
-use crate::laws::octets_spell_built_messages;
+use crate::laws::built_messages_have_spellings;
 use crate::sent_avps::{
-    capabilities_avp_capacity, push_capabilities, push_failed_avp_if_fitting,
-    push_origin_host_and_realm, push_origin_state_id, state_id_in_answer, unsigned32_avp,
+    capabilities_avp_capacity, own_state_id_if_watchdog, push_capabilities,
+    push_failed_avp_within_limit, push_origin_host_and_realm, push_origin_state_id, unsigned32_avp,
 };
 use dm_dict::NoMemory;
 use dm_wire::{Avp, AvpList, Header, Message};
@@ -36,7 +36,7 @@ pub fn cea(
     ensures kind { to.now.command ≡ capabilities_exchange
         → IsBase (built_cea node.now to.now code (option_copied failed.entry)) (kinds.Cea code) }
 {
-    octets_spell_built_messages();
+    built_messages_have_spellings();
     let header = header_of_answer(false, to);
     let mut avps = Vec::with_capacity(alloc, capabilities_avp_capacity(node))?;
     avps.push(unsigned32_avp(alloc, RESULT_CODE, code)?)?;
@@ -62,8 +62,8 @@ fn dwa_or_dpa(
     let mut avps = Vec::with_capacity(alloc, 5)?;
     avps.push(unsigned32_avp(alloc, RESULT_CODE, code)?)?;
     push_origin_host_and_realm(alloc, &mut avps, node)?;
-    push_failed_avp_if_fitting(alloc, &mut avps, failed)?;
-    push_origin_state_id(alloc, &mut avps, state_id_in_answer(node, to.command))?;
+    push_failed_avp_within_limit(alloc, &mut avps, failed)?;
+    push_origin_state_id(alloc, &mut avps, own_state_id_if_watchdog(node, to.command))?;
     Ok(Message {
         header,
         avps: AvpList::from_vec(avps),
@@ -86,7 +86,7 @@ pub fn dwa(
     ensures kind { to.now.command ≡ device_watchdog
         → IsBase (built_answer node.now to.now code (option_copied failed.entry)) kinds.Dwa }
 {
-    octets_spell_built_messages();
+    built_messages_have_spellings();
     dwa_or_dpa(alloc, node, to, code, failed)
 }
 
@@ -106,7 +106,7 @@ pub fn dpa(
     ensures kind { to.now.command ≡ disconnect_peer
         → IsBase (built_answer node.now to.now code (option_copied failed.entry)) kinds.Dpa }
 {
-    octets_spell_built_messages();
+    built_messages_have_spellings();
     dwa_or_dpa(alloc, node, to, code, failed)
 }
 
@@ -133,6 +133,6 @@ pub fn error_answer(alloc: Global, node: &Node, to: &Header, code: u32) -> Resul
     // Whatever the command and the Result-Code.
     ensures good { IsGood (built_error node.now to.now code) }
 {
-    octets_spell_built_messages();
+    built_messages_have_spellings();
     error_bit_answer(alloc, node, to, code)
 }

@@ -1,4 +1,5 @@
-//! Capabilities where they lie in a message (RFC 6733, 5.3).
+//! Capabilities where they lie in a message: whether they have an application in common with a node, and allow a
+//! connection without security (RFC 6733, 5.3 and 6.10).
 ghost use Rattle.std.specs.Prelude.{◌≡◌, List, true, is_some};
 ghost use Rattle.std.specs.List.{list_any, flat_map};
 ghost use Rattle.std.specs.List.Sorted.{IsNonDecreasing};

@@ -7,7 +7,7 @@ ghost use Rattle.dm_base.specs.Told.{CerTellsNode, CeaTellsNode, DwrTellsState, 
 ghost use Rattle.dm_base.specs.Laws.{CerIsSpelled, CeaIsSpelled, DwrIsSpelled};
 ghost use Rattle.dm_base.specs.Laws.{DprIsSpelled, AnswerIsSpelled, ErrorIsSpelled};
 
-use dm_wire::laws::{canonical_avps_have_padded_length, fitting_messages_are_spelled};
+use dm_wire::laws::{canonical_avps_have_padded_length, fitting_messages_have_canonical_spelling};
 
 /// Of two hosts that differ in lower case just one comes before the other, so just one side wins an election
 /// (RFC 6733, 5.6.4).
@@ -18,7 +18,7 @@ pub fn one_of_two_hosts_comes_first()
 /// The messages that a node builds are good under the base dictionary, and of their kind: of a CER the capabilities are
 /// the node's own, of a DPR the cause and of a CEA the Result-Code are those that were asked for; of a DWA and a DPA no
 /// Result-Code is told (5.3 to 5.5).
-pub fn built_messages_are_good()
+pub fn built_messages_are_good_and_as_meant()
     ensures cer { CerIsOwn }
     ensures cea { CeaIsOwn }
     ensures dwr { DwrIsOwn }
@@ -31,7 +31,7 @@ pub fn built_messages_are_good()
 
 /// Octets spell the messages that a node builds; an answer, where the numbers of the request's header fit their fields
 /// (3).
-pub fn octets_spell_built_messages()
+pub fn built_messages_have_spellings()
     ensures cer { CerIsSpelled }
     ensures cea { CeaIsSpelled }
     ensures dwr { DwrIsSpelled }
@@ -40,13 +40,13 @@ pub fn octets_spell_built_messages()
     ensures answer { AnswerIsSpelled }
     ensures error { ErrorIsSpelled }
 {
-    fitting_messages_are_spelled();
+    fitting_messages_have_canonical_spelling();
     canonical_avps_have_padded_length();
 }
 
 /// What the capabilities exchanges of a node tell, as `sender` reads them, is what the node says of itself, extras too;
 /// and its watchdogs tell the number of its state (5.3 and 8.16). It stands for users.
-pub fn exchanges_tell_the_node_and_watchdogs_its_state()
+pub fn exchanges_and_watchdogs_tell_their_sender()
     ensures cer { CerTellsNode }
     ensures cea { CeaTellsNode }
     ensures dwr { DwrTellsState }

@@ -13,7 +13,7 @@ use crate::BaseCommand;
 use crate::caps_ref::CapsRef;
 use crate::codes::{DISCONNECT_CAUSE, ORIGIN_HOST, ORIGIN_REALM, RESULT_CODE};
 use crate::kind_ref::KindRef;
-use crate::private_laws::spelled_avps_are_members;
+use crate::private_laws::members_are_what_these_octets_spell;
 use crate::received_avps::{first_data_of_code, first_number_or_zero};
 use dm_dict::{Dictionary, Judged};
 use dm_wire::{AvpsRef, MessageRef};
@@ -64,7 +64,7 @@ pub fn view<'a>(
     };
     match dictionary.judge(message) {
         Judged::Good => {
-            spelled_avps_are_members(message.rest);
+            members_are_what_these_octets_spell(message.rest);
             Ok(kind_with_borrowed_parts(command, header.request, message.rest))
         }
         bad => Err(bad),

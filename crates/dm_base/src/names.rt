@@ -7,7 +7,7 @@ use crate::limits::MAX_NAME_LEN;
 use dm_dict::{AvpType, value_fault};
 
 /// Whether the octets are a text of at least one octet, all visible.
-pub(crate) fn is_visible_text(octets: &[u8]) -> bool
+pub(crate) fn is_nonempty_visible_text(octets: &[u8]) -> bool
     ensures { result ≡ is_visible_text octets.now }
 {
     value_fault(AvpType::DiameterIdentity, octets).is_none()
@@ -18,5 +18,5 @@ pub(crate) fn is_visible_text(octets: &[u8]) -> bool
 pub fn is_name(octets: &[u8]) -> bool
     ensures { result ≡ is_name octets.now }
 {
-    is_visible_text(octets) && octets.len() <= MAX_NAME_LEN
+    is_nonempty_visible_text(octets) && octets.len() <= MAX_NAME_LEN
 }

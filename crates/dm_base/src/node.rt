@@ -5,7 +5,7 @@ ghost use Rattle.dm_base.specs.Refusals.{node_fault};
 ghost use Rattle.dm_base.specs.Fit.{is_name, are_addresses, is_number, is_product, are_ids};
 
 use crate::limits::{MAX_ADDRESSES, MAX_IDS, MAX_NAME_LEN};
-use crate::names::is_visible_text;
+use crate::names::is_nonempty_visible_text;
 use crate::private_laws::{addresses_have_their_sizes, ids_fit_32_bits, text_is_utf8};
 use crate::{Extras, IdList, IpList, NodeFault};
 use dm_dict::{Ip, Text};
@@ -43,7 +43,7 @@ fn fault_of_node_parts(
 ) -> Option<NodeFault>
     ensures { result ≡ node_fault host.now realm.now addresses.now product.now auth.now acct.now }
 {
-    if !(is_visible_text(host) && is_visible_text(realm)) {
+    if !(is_nonempty_visible_text(host) && is_nonempty_visible_text(realm)) {
         return Some(NodeFault::BadHost);
     }
     if addresses.len() == 0 {

@@ -15,7 +15,7 @@ use dm_wire::laws::members_are_what_octets_spell;
 
 /// The octets that spell AVPs have them as their members: `dm_wire::laws::members_are_what_octets_spell`, of these
 /// octets.
-pub(crate) fn spelled_avps_are_members(octets: &[u8])
+pub(crate) fn members_are_what_these_octets_spell(octets: &[u8])
     ensures { (l : List Avp) → SpellsList l octets.now → members octets.now ≡ Some l }
 {
     members_are_what_octets_spell();

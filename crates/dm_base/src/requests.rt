@@ -7,7 +7,7 @@ ghost use Rattle.dm_base.specs.Built.{cause_number, own_caps, built_cer, built_d
 
 use crate::codes::{CAPABILITIES_EXCHANGE, DEVICE_WATCHDOG, DISCONNECT_CAUSE, DISCONNECT_PEER};
 use crate::headers::header_of_request;
-use crate::laws::octets_spell_built_messages;
+use crate::laws::built_messages_have_spellings;
 use crate::sent_avps::{
     capabilities_avp_capacity, own_state_id, push_capabilities, push_origin_host_and_realm,
     push_origin_state_id, unsigned32_avp,
@@ -26,7 +26,7 @@ pub fn cer(alloc: Global, node: &Node, id: u32) -> Result<Message, NoMemory>
     // It is read as a request that tells the node's own capabilities.
     ensures kind { IsBase (built_cer node.now id) (kinds.Cer (own_caps node.now)) }
 {
-    octets_spell_built_messages();
+    built_messages_have_spellings();
     let header = header_of_request(CAPABILITIES_EXCHANGE, id);
     let mut avps = Vec::with_capacity(alloc, capabilities_avp_capacity(node))?;
     push_capabilities(alloc, &mut avps, node, None)?;
@@ -44,7 +44,7 @@ pub fn dwr(alloc: Global, node: &Node, id: u32) -> Result<Message, NoMemory>
     ensures spelled { HasSpelling (built_dwr node.now id) }
     ensures kind { IsBase (built_dwr node.now id) kinds.Dwr }
 {
-    octets_spell_built_messages();
+    built_messages_have_spellings();
     let header = header_of_request(DEVICE_WATCHDOG, id);
     let mut avps = Vec::with_capacity(alloc, 3)?;
     push_origin_host_and_realm(alloc, &mut avps, node)?;
@@ -63,7 +63,7 @@ pub fn dpr(alloc: Global, node: &Node, id: u32, cause: Cause) -> Result<Message,
     ensures spelled { HasSpelling (built_dpr node.now id cause) }
     ensures kind { IsBase (built_dpr node.now id cause) (kinds.Dpr (pos (cause_number cause))) }
 {
-    octets_spell_built_messages();
+    built_messages_have_spellings();
     let header = header_of_request(DISCONNECT_PEER, id);
     let mut avps = Vec::with_capacity(alloc, 3)?;
     push_origin_host_and_realm(alloc, &mut avps, node)?;

@@ -11,7 +11,7 @@ use crate::codes::{
     CAPABILITIES_EXCHANGE, DISCONNECT_CAUSE, DISCONNECT_PEER, FIRMWARE_REVISION, ORIGIN_HOST,
     ORIGIN_REALM, ORIGIN_STATE_ID, PRODUCT_NAME, SUPPORTED_VENDOR_ID, VENDOR_ID,
 };
-use crate::private_laws::spelled_avps_are_members;
+use crate::private_laws::members_are_what_these_octets_spell;
 use crate::received_avps::{
     first_data_of_code, first_number_of_code, push_all_numbers_of_code, read_application_ids,
 };
@@ -100,7 +100,7 @@ pub fn sender<'a>(message: &MessageRef<'a>) -> Option<SenderRef<'a>>
     if message.header.command != CAPABILITIES_EXCHANGE {
         return None;
     }
-    spelled_avps_are_members(message.rest);
+    members_are_what_these_octets_spell(message.rest);
     Some(SenderRef { rest: message.rest })
 }
 
@@ -113,7 +113,7 @@ pub fn disconnect_cause(message: &MessageRef<'_>) -> Option<i32>
     if message.header.command != DISCONNECT_PEER || !message.header.request {
         return None;
     }
-    spelled_avps_are_members(message.rest);
+    members_are_what_these_octets_spell(message.rest);
     match first_number_of_code(AvpsRef::Spelled(message.rest), DISCONNECT_CAUSE) {
         Some(number) => Some(number.cast_signed()),
         None => None,

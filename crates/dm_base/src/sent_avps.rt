@@ -135,7 +135,7 @@ fn octets_of_avp(alloc: Global, avp: &Avp) -> Result<Vec<u8>, NoMemory>
 }
 
 /// Whether a failed AVP is short enough to be handed back.
-fn fits_in_failed_avp(avp: &Avp) -> bool
+fn is_within_failed_avp_limit(avp: &Avp) -> bool
     ensures { result ≡ nat_le (avp_length avp.now) longest_failed }
 {
     match avp.wire_len() {
@@ -145,7 +145,7 @@ fn fits_in_failed_avp(avp: &Avp) -> bool
 }
 
 /// A Failed-AVP that holds the failed AVP, appended, where there is one that isn't too long.
-pub(crate) fn push_failed_avp_if_fitting(
+pub(crate) fn push_failed_avp_within_limit(
     alloc: Global,
     avps: &mut Vec<Avp>,
     failed: Option<&Avp>,
@@ -153,7 +153,7 @@ pub(crate) fn push_failed_avp_if_fitting(
     ensures { OnOk result (avps.new.items ≡ avps.old.items ++ failed_avps (option_copied failed.entry)) }
 {
     if let Some(avp) = failed {
-        if fits_in_failed_avp(avp) {
+        if is_within_failed_avp_limit(avp) {
             avps.push(mandatory_avp(FAILED_AVP, octets_of_avp(alloc, avp)?))?;
         }
     }
@@ -297,7 +297,7 @@ pub(crate) fn own_state_id(node: &Node) -> Option<u32>
 
 /// The number of the node's state, where it has one and an answer to this command tells it: a Device-Watchdog-Answer
 /// alone (RFC 6733, 5.5.2).
-pub(crate) fn state_id_in_answer(node: &Node, command: u32) -> Option<u32>
+pub(crate) fn own_state_id_if_watchdog(node: &Node, command: u32) -> Option<u32>
     ensures { result ≡ answer_state node.now command }
 {
     if command == DEVICE_WATCHDOG {
@@ -360,7 +360,7 @@ fn push_avps_after_product_name(
         ++ (failed_avps (option_copied failed.entry) ++ behind_failed node.now))) }
 {
     push_origin_state_id(alloc, avps, own_state_id(node))?;
-    push_failed_avp_if_fitting(alloc, avps, failed)?;
+    push_failed_avp_within_limit(alloc, avps, failed)?;
     push_supported_vendors(alloc, avps, node)?;
     push_applications_and_firmware(alloc, avps, node)?;
     Ok(())

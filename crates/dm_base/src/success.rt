@@ -10,8 +10,8 @@ ghost use Rattle.dm_base.specs.Built.{origin, state_avps, result_avp, built_answ
 use crate::Node;
 use crate::codes::{ORIGIN_HOST, ORIGIN_REALM, ORIGIN_STATE_ID, RESULT_CODE, SUCCESS};
 use crate::headers::header_of_answer;
-use crate::laws::octets_spell_built_messages;
-use crate::sent_avps::{borrowed_mandatory_avp, state_id_in_answer};
+use crate::laws::built_messages_have_spellings;
+use crate::sent_avps::{borrowed_mandatory_avp, own_state_id_if_watchdog};
 use dm_wire::codes::limits::HEADER_LEN;
 use dm_wire::laws::{canonical_avps_have_padded_length, canonical_octets_spell_message};
 use dm_wire::{Header, WireFault, header_octets, push_avp};
@@ -108,9 +108,9 @@ pub fn success_octets(alloc: Global, node: &Node, to: &Header) -> Result<Vec<u8>
     ensures long { IsErrOf result WireFault.TooLong ↔ (max_command < to.now.command) }
     ensures fault { IfErr result (λ fault. (fault ≡ WireFault.TooLong) ⊎ (fault ≡ WireFault.NoMemory)) }
 {
-    octets_spell_built_messages();
+    built_messages_have_spellings();
     canonical_octets_spell_message();
-    let state = state_id_in_answer(node, to.command);
+    let state = own_state_id_if_watchdog(node, to.command);
     let size = HEADER_LEN as usize + success_avps_size(node, state);
     let Some(header) = header_octets(header_of_answer(false, to), size as u32) else {
         return Err(WireFault::TooLong);

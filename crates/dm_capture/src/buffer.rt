@@ -1,4 +1,4 @@
-//! The room of the octets that were passed.
+//! A buffer whose front was taken: the room of those octets is used again.
 ghost use Rattle.std.specs.Prelude.{◌≡◌, ◌≤◌, drop, vec_len};
 
 /// Moves the octets behind the first `taken` to the front where they are no more than those, and answers where

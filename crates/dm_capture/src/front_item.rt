@@ -7,7 +7,7 @@ use crate::interface::Interface;
 use crate::order::Order;
 use crate::packet::Record;
 use crate::pcap::{PcapForm, file_header_at_front, record_at_front};
-use crate::section::item_in_section;
+use crate::section::section_item_at_front;
 
 /// What is known of the file so far, but for a section's interfaces.
 #[derive(Clone, Copy, Debug)]
@@ -57,6 +57,6 @@ pub(crate) fn item_at_front(
     match layout {
         Layout::Start => file_header_at_front(octets),
         Layout::Pcap(form) => record_at_front(form, octets),
-        Layout::Pcapng(order) => item_in_section(order, interfaces, octets),
+        Layout::Pcapng(order) => section_item_at_front(order, interfaces, octets),
     }
 }

@@ -3,7 +3,7 @@ ghost use Rattle.dm_capture.specs.Laws.{LaterChangesNothing, EachPcapIsRead, Eac
 ghost use Rattle.dm_capture.specs.Laws.{ItemOrPart, PartOrFault, OneFrontFault, RunsJoin, OneItem, OneReading};
 
 /// At most one of these stands at the front of what is left: one header, record or block, a part of one, one fault.
-pub fn at_most_one_item_is_in_front()
+pub fn item_part_or_fault_excludes_others()
     ensures item { OneItem }
     ensures part { ItemOrPart }
     ensures fault { ItemOrFault }
@@ -18,7 +18,7 @@ pub fn captures_are_read_in_one_way()
 
 /// What was read stays so, whatever comes behind it, and reading goes on from there. So it doesn't matter into which
 /// pieces the file was cut.
-pub fn cuts_change_no_packets()
+pub fn read_items_stay_and_runs_join()
     ensures stays { LaterChangesNothing }
     ensures joins { RunsJoin }
 {}

@@ -8,7 +8,7 @@ use crate::fault::FaultKind;
 use crate::interface::{Interface, interface_at};
 use crate::order::{Order, u16_at, u32_at};
 use crate::packet::{MOST_CAPTURED, Record};
-use crate::time::time_after_offset;
+use crate::time::wrapping_time_after_offset;
 
 /// The type of an enhanced packet block.
 const ENHANCED: u32 = 6;
@@ -20,7 +20,7 @@ const TIMED_LEN: usize = 32;
 const SIMPLE_LEN: usize = 16;
 
 /// The number of the interface that an enhanced packet block names in four octets, and the obsolete one in two.
-fn number_of_interface(order: Order, block: &[u8]) -> usize
+fn interface_number_of_block(order: Order, block: &[u8]) -> usize
     requires { 12 ≤ length block.now }
     ensures { result ≡ interface_number order block.now }
 {
@@ -44,14 +44,14 @@ pub(crate) fn enhanced_or_obsolete_packet(
     if block.len() < TIMED_LEN {
         return Err(FaultKind::WrongLength);
     }
-    match interface_at(interfaces, number_of_interface(order, block)) {
-        Some(interface) => enhanced_or_obsolete_of_interface(order, interface, block),
+    match interface_at(interfaces, interface_number_of_block(order, block)) {
+        Some(interface) => enhanced_or_obsolete_packet_of_interface(order, interface, block),
         None => Err(FaultKind::UnknownInterface),
     }
 }
 
 /// The packet of an enhanced packet block, or of the obsolete one, which was captured on this interface.
-fn enhanced_or_obsolete_of_interface(
+fn enhanced_or_obsolete_packet_of_interface(
     order: Order,
     interface: Interface,
     block: &[u8],
@@ -70,7 +70,7 @@ fn enhanced_or_obsolete_of_interface(
     let units = u32_at(order, block, 12) as u64 * 4_294_967_296 + u32_at(order, block, 16) as u64;
     Ok(Record {
         link: interface.link,
-        time: Some(time_after_offset(interface.resolution, interface.offset, units)),
+        time: Some(wrapping_time_after_offset(interface.resolution, interface.offset, units)),
         original: u32_at(order, block, 24),
         start: 28,
         captured,

@@ -1,4 +1,4 @@
-//! Pcap: a header of 24 octets, and records.
+//! Pcap: the header at a file's front, which may also be that of a pcapng file's first section, and records.
 ghost use Rattle.std.specs.Prelude.{◌≡◌, ◌≢◌, ◌<◌, ◌≤◌, [], length, take, Some, IfOk, IfErr, IfSome, IfNone};
 ghost use Rattle.dm_capture.specs.Numbers.{ordered_number};
 ghost use Rattle.dm_capture.specs.Blocks.{section_type};
@@ -124,7 +124,7 @@ pub(crate) fn record_at_front(form: PcapForm, octets: &[u8]) -> Result<Option<Fo
     if octets.len() < size {
         return Ok(None);
     }
-    let record = record_fields(form, captured, &octets[..size]);
+    let record = read_pcap_record(form, captured, &octets[..size]);
     Ok(Some(Found {
         size,
         holds: Holds::PacketRecord(record),
@@ -132,7 +132,7 @@ pub(crate) fn record_at_front(form: PcapForm, octets: &[u8]) -> Result<Option<Fo
 }
 
 /// What a record of a pcap file says in which so many octets of a packet stand.
-fn record_fields(form: PcapForm, captured: usize, octets: &[u8]) -> Record
+fn read_pcap_record(form: PcapForm, captured: usize, octets: &[u8]) -> Record
     requires { 16 ≤ length octets.now }
     ensures { result ≡ pcap_record form captured octets.now }
 {

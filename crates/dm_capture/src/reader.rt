@@ -92,7 +92,7 @@ impl CaptureReader {
             match self.front_item() {
                 Ok(Some(found)) => match found.holds {
                     Holds::PacketRecord(stands) => return self.take_packet(found.size, stands),
-                    holds => self.move_past_front_item(found.size, holds)?,
+                    holds => self.note_and_pass_front_item(found.size, holds)?,
                 },
                 Ok(None) => return Ok(None),
                 Err(kind) => return Err(self.keep_fault(kind)),
@@ -139,7 +139,7 @@ impl CaptureReader {
     }
 
     /// Passes what stands at the front, and notes what it says of the file. Where memory is wanted nothing changes.
-    fn move_past_front_item(&mut self, size: usize, holds: Holds) -> Result<(), CaptureFault>
+    fn note_and_pass_front_item(&mut self, size: usize, holds: Holds) -> Result<(), CaptureFault>
         requires { size ≤ length self.old.octets }
         ensures passed { OnOk result (self.new ≡ passed self.old size holds (drop size self.old.octets)) }
         ensures err { OnErr result (self.new ≡ self.old) }
@@ -165,7 +165,7 @@ impl CaptureReader {
         Ok(())
     }
 
-    /// Hands out the packet of the record at the front. Where memory is wanted nothing changes.
+    /// Hands out the packet of the record at the front, and never None. Where memory is wanted nothing changes.
     fn take_packet(&mut self, size: usize, stands: Record) -> Result<Option<Packet>, CaptureFault>
         requires size { size ≤ length self.old.octets }
         requires within { stands.start + stands.captured ≤ size }
@@ -193,7 +193,7 @@ impl CaptureReader {
 
     /// What is wrong where the file ends here, once `next` answered `None`: nothing, a record that isn't whole, or no
     /// file at all.
-    pub fn check_end(&self) -> Result<(), CaptureFault>
+    pub fn check_is_whole_file(&self) -> Result<(), CaptureFault>
         ensures whole { OnOk result ((self.now.octets ≡ []) × (self.now.layout ≢ Start)) }
         ensures fault { IfErr result (λ fault. (fault.offset ≡ self.now.offset) × EndsWith self.now fault.kind) }
     {

@@ -99,7 +99,7 @@ fn section_header_in_order(order: Order, octets: &[u8]) -> Result<Option<Found>,
 }
 
 /// The block at the front of what is left in a section, or the header of the next one; `None` where it isn't whole yet.
-pub(crate) fn item_in_section(
+pub(crate) fn section_item_at_front(
     order: Order,
     interfaces: &[Interface],
     octets: &[u8],
@@ -116,11 +116,11 @@ pub(crate) fn item_in_section(
     if begins_with_section_header(octets) {
         return section_header_at_front(octets);
     }
-    block_within_section(order, interfaces, octets)
+    section_block_at_front(order, interfaces, octets)
 }
 
 /// The block at the front of what is left in a section, which is no section's header; `None` where it isn't whole yet.
-fn block_within_section(
+fn section_block_at_front(
     order: Order,
     interfaces: &[Interface],
     octets: &[u8],

@@ -63,7 +63,7 @@ fn next_packet_without_kept_fault<R: BufRead>(
 fn none_or_fault_at_end(capture: &CaptureReader) -> Result<Option<Packet>, StreamFault>
     ensures { EndsAs capture.now result }
 {
-    match capture.check_end() {
+    match capture.check_is_whole_file() {
         Ok(()) => Ok(None),
         Err(fault) => Err(StreamFault::Capture(fault)),
     }

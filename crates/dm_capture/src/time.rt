@@ -54,7 +54,7 @@ fn seconds_and_units(resolution: Resolution, units: u64) -> (u64, u64)
 }
 
 /// The time that is these units after the offset, in seconds as two's complement.
-pub(crate) fn time_after_offset(resolution: Resolution, offset: u64, units: u64) -> Time
+pub(crate) fn wrapping_time_after_offset(resolution: Resolution, offset: u64, units: u64) -> Time
     ensures { result ≡ time_of resolution offset units }
 {
     let (seconds, fraction) = seconds_and_units(resolution, units);

@@ -27,22 +27,22 @@ fn has_one_of_ports(ports: &[u16], end: Endpoint) -> bool
 }
 
 /// Whether the connection of what is sent is looked at. It takes no memory.
-pub(crate) fn is_wanted<S: Copy, C: Takes<S>>(choice: Choice<'_>, sent: S) -> bool
+pub(crate) fn is_connection_wanted<S: Copy, C: Takes<S>>(choice: Choice<'_>, sent: S) -> bool
     ensures { IsTrue result ↔ WantsBetween choice.entry (C.between sent) (C.BeginsExchange sent) }
 {
-    let ends = C::ends_of(sent);
+    let ends = C::sender_and_receiver_of(sent);
     match choice {
         Choice::Ports(ports) => has_one_of_ports(ports, ends.first)
             || has_one_of_ports(ports, ends.second),
-        Choice::Any => C::begins_exchange_request(sent),
+        Choice::Any => C::exchange_request_begins_in(sent),
     }
 }
 
 impl<'a> Choice<'a> {
-    /// Whether the connection of the segment is looked at. It takes no memory.
-    pub fn wants_connection_of(&self, segment: Segment<'_>) -> bool
+    /// Whether the connection of the segment is looked at where it isn't held yet. It takes no memory.
+    pub fn wants_new_connection_of(&self, segment: Segment<'_>) -> bool
         ensures { IsTrue result ↔ Wants self.now (segment_seen segment.entry) }
     {
-        is_wanted::<Segment<'_>, Connection>(*self, segment)
+        is_connection_wanted::<Segment<'_>, Connection>(*self, segment)
     }
 }

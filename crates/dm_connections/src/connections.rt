@@ -7,7 +7,7 @@ ghost use Rattle.dm_connections.specs.Held.{connection_of, holds_ends, found_end
 ghost use Rattle.dm_connections.specs.Held.{ConnectionGoesOn, OneWayGoesOn, HasPlaceBetween, HasNoPlaceBetween};
 ghost use Rattle.dm_connections.specs.Held.{SentGoesIn};
 
-use crate::choice::{Choice, is_wanted};
+use crate::choice::{Choice, is_connection_wanted};
 use crate::ends::Ends;
 use crate::limits::Limits;
 use crate::octet_sum::{next_message_keeping_sum, sum_with_part_replaced, take_sent_keeping_sum};
@@ -20,7 +20,7 @@ use std::marker::Model;
 
 /// A connection that was let go: its ends, and the connection as it was, which tells how many of its octets were passed
 /// over and how many are lost with it: [`Connection::octets_passed_over_both_ways`] and
-/// [`Connection::octets_pending_both_ways`], say.
+/// [`Connection::octets_held_that_came_both_ways`], say.
 #[derive(Debug, Drop)]
 pub struct LetGo<C = Connection> {
     pub ends: Ends,
@@ -103,7 +103,7 @@ impl<C: TwoWay> Connections<C> {
     }
 
     /// Whether a connection of these ends is held, in this order.
-    fn holds(&self, ends: Ends) -> bool
+    fn holds_in_this_order(&self, ends: Ends) -> bool
         ensures { result ≡ holds_ends self.now.held ends }
     {
         self.held.contains(&ends)
@@ -111,21 +111,25 @@ impl<C: TwoWay> Connections<C> {
 
     /// The ends of the connection of two, if it is held: in that order, or else in the other one; None where it isn't.
     /// It never answers want of memory.
-    pub fn find_ends(&self, source: Endpoint, destination: Endpoint) -> Option<Ends>
+    pub fn find_held_ends(&self, source: Endpoint, destination: Endpoint) -> Option<Ends>
         ensures { result ≡ found_ends self.now.held source destination }
     {
         let forth = Ends {
             first: source,
             second: destination,
         };
-        if self.holds(forth) {
+        if self.holds_in_this_order(forth) {
             return Some(forth);
         }
         let back = Ends {
             first: destination,
             second: source,
         };
-        if self.holds(back) { Some(back) } else { None }
+        if self.holds_in_this_order(back) {
+            Some(back)
+        } else {
+            None
+        }
     }
 
     /// The connection of these ends; None where none is held. It never answers want of memory.
@@ -169,7 +173,7 @@ impl<C: TwoWay> Connections<C> {
             (self.new ≡ record self.old { held = with_one C.new_of self.old.max ends self.old.held }) }
         ensures unchanged { OnErr result (self.new ≡ self.old) }
     {
-        match self.find_ends(ends.first, ends.second) {
+        match self.find_held_ends(ends.first, ends.second) {
             Some(_) => Ok(()),
             None => self.hold_new_connection(ends),
         }
@@ -256,11 +260,11 @@ impl<C: TwoWay> Connections<C> {
         ensures unchanged { OnErr result (self.new ≡ self.old) }
         ensures max { self.new.max ≡ self.old.max }
     {
-        let ends = C::ends_of(sent);
-        if let Some(ends) = self.find_ends(ends.first, ends.second) {
+        let ends = C::sender_and_receiver_of(sent);
+        if let Some(ends) = self.find_held_ends(ends.first, ends.second) {
             return Ok(Some(ends));
         }
-        if !is_wanted::<S, C>(choice, sent) {
+        if !is_connection_wanted::<S, C>(choice, sent) {
             return Ok(None);
         }
         match self.hold_new_connection(ends) {

@@ -35,15 +35,15 @@ impl TwoWay for Connection {
 
     ghost new_holds_none = { Prim.search rules };
 
-    fn new_between(alloc: Global, ends: Ends, max: u32) -> Connection {
-        Connection::new(alloc, ends.first, ends.second, max)
+    fn new_between(alloc: Global, ends: Ends, max_message_len: u32) -> Connection {
+        Connection::new(alloc, ends.first, ends.second, max_message_len)
     }
 
     fn octets_passed_over(&self) -> u64 {
         self.octets_passed_over_both_ways()
     }
 
-    fn octets_secured(&self) -> u64 {
+    fn octets_of_dtls(&self) -> u64 {
         0
     }
 
@@ -51,8 +51,8 @@ impl TwoWay for Connection {
         self.octets_held_both_ways()
     }
 
-    fn octets_pending(&self) -> u64 {
-        self.octets_pending_both_ways()
+    fn octets_held_that_came(&self) -> u64 {
+        self.octets_held_that_came_both_ways()
     }
 
     fn next_message(&mut self, from_first: bool) -> Result<Option<Vec<u8>>, AllocError> {
@@ -78,14 +78,14 @@ impl<'a> Takes<Segment<'a>> for Connection {
 
     ghost LeavesSent = { λ before segment after. LeavesConnection before (segment_seen segment) after };
 
-    fn ends_of(sent: Segment<'a>) -> Ends {
+    fn sender_and_receiver_of(sent: Segment<'a>) -> Ends {
         Ends {
             first: sent.source,
             second: sent.destination,
         }
     }
 
-    fn begins_exchange_request(sent: Segment<'a>) -> bool {
+    fn exchange_request_begins_in(sent: Segment<'a>) -> bool {
         begins_with_exchange_request(sent.payload)
     }
 

@@ -35,16 +35,16 @@ pub trait TwoWay: Drop {
 
     ghost HandsNone: { Self.Way → Self.Way → Type 0 };
 
-    /// What is held of these ends before anything came, for messages of at most `max` octets.
-    fn new_between(alloc: Global, ends: Ends, max: u32) -> Self
-        ensures { result ≡ new_of max ends };
+    /// What is held of these ends before anything came, for messages of at most `max_message_len` octets.
+    fn new_between(alloc: Global, ends: Ends, max_message_len: u32) -> Self
+        ensures { result ≡ new_of max_message_len ends };
 
     /// How many octets were passed over in both directions.
     fn octets_passed_over(&self) -> u64
         ensures { result ≡ passed_in self.now };
 
     /// How many octets of Diameter over DTLS came in both directions, which aren't read (RFC 6733, 2.1 and 11.5).
-    fn octets_secured(&self) -> u64
+    fn octets_of_dtls(&self) -> u64
         ensures { result ≡ secured_in self.now };
 
     /// How many octets are held in both directions.
@@ -52,7 +52,7 @@ pub trait TwoWay: Drop {
         ensures { result ≡ held_in self.now };
 
     /// How many octets came in both directions that were neither handed out nor passed over.
-    fn octets_pending(&self) -> u64
+    fn octets_held_that_came(&self) -> u64
         ensures { result ≡ pending_in self.now };
 
     /// Hands out the next whole message from the first end, or else from the second one; None where it isn't whole yet.
@@ -86,11 +86,11 @@ pub trait Takes<S: Copy>: TwoWay {
     ghost LeavesSent: { Self → S → Self → Type 0 };
 
     /// Who sent it, and then whom it is for.
-    fn ends_of(sent: S) -> Ends
+    fn sender_and_receiver_of(sent: S) -> Ends
         ensures { result ≡ between sent };
 
     /// Whether a Capabilities-Exchange-Request may begin in it, as the header tells. It takes no memory.
-    fn begins_exchange_request(sent: S) -> bool
+    fn exchange_request_begins_in(sent: S) -> bool
         ensures { IsTrue result ↔ BeginsExchange sent };
 
     /// Takes what one end sent.

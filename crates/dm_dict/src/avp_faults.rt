@@ -13,8 +13,8 @@ ghost use Rattle.dm_dict.specs.Rules.{definition};
 
 use crate::avps::has_failed_avp_code;
 use crate::codes::{AVP_NOT_ALLOWED, AVP_UNSUPPORTED, INVALID_AVP_LENGTH, INVALID_AVP_VALUE};
-use crate::data::data_fault;
-use crate::entry_faults::push_entries_faults;
+use crate::data::data_fault_code;
+use crate::entry_faults::push_faults_of_all_entries;
 use crate::fault::Fault;
 use crate::findings::Findings;
 use crate::judged::Failed;
@@ -58,14 +58,14 @@ fn add_faults_of_avp_itself<'a>(
     if let AvpType::Grouped = def.kind {
         return Ok(());
     }
-    match data_fault(def, avp.bytes) {
+    match data_fault_code(def, avp.bytes) {
         Some(code) => findings.add_fault(path, Fault { code, failed }),
         None => Ok(()),
     }
 }
 
 /// Adds the faults of the entries of the rule.
-fn add_entries_faults<'a>(
+fn add_faults_of_all_entries<'a>(
     alloc: Global,
     findings: &mut Findings<'a>,
     path: Option<&Path>,
@@ -81,10 +81,10 @@ fn add_entries_faults<'a>(
         (map here (flat_map (entry_faults tables.now.avps.items rule.entry.entries.now l) rule.entry.entries.now))) }
 {
     let Some(path) = path else {
-        return push_entries_faults(alloc, tables, rule, list, &mut findings.faults);
+        return push_faults_of_all_entries(alloc, tables, rule, list, &mut findings.faults);
     };
     let mut faults = Vec::new(alloc);
-    push_entries_faults(alloc, tables, rule, list, &mut faults)?;
+    push_faults_of_all_entries(alloc, tables, rule, list, &mut faults)?;
     findings.add_faults(Some(path), faults.as_slice())?;
     Ok(())
 }
@@ -101,15 +101,15 @@ fn add_avp_faults<'a>(
     place: Option<usize>,
     allowed: bool,
     avp: AvpRef<'a>,
-    depth: u32,
+    groups_allowed: u32,
 ) -> Result<(), NoMemory>
     requires linked { IsLinked dictionary.now }
     requires fit { IsFit dictionary.now.tables.avps.items }
     requires def { option_and_then (slice_get dictionary.now.tables.avps.items) place
         ≡ definition dictionary.now.tables.avps.items (avp_of avp) }
-    requires room { HasRoomInside (option_copied path) depth }
+    requires room { HasRoomInside (option_copied path) groups_allowed }
     ensures { OnOk result (AddsAt findings.old findings.new (option_copied path.entry)
-        (avp_located (group_located depth dictionary.now.tables.avps.items nth) allowed
+        (avp_located (group_located groups_allowed dictionary.now.tables.avps.items nth) allowed
         (avp_of avp.entry) (definition dictionary.now.tables.avps.items (avp_of avp.entry)))) }
 {
     let Some(LinkedAvp { def, links }) = dictionary.linked_avp_at(place) else {
@@ -124,7 +124,16 @@ fn add_avp_faults<'a>(
             entries: &def.rule,
             links,
         };
-        return add_group_faults(alloc, findings, path, nth, dictionary, rule, avp, depth);
+        return add_group_faults(
+            alloc,
+            findings,
+            path,
+            nth,
+            dictionary,
+            rule,
+            avp,
+            groups_allowed,
+        );
     }
     Ok(())
 }
@@ -140,16 +149,16 @@ fn add_group_faults<'a>(
     dictionary: &Linked,
     rule: LinkedRule<'_>,
     avp: AvpRef<'a>,
-    depth: u32,
+    groups_allowed: u32,
 ) -> Result<(), NoMemory>
     requires linked { IsLinked dictionary.now }
     requires fit { IsFit dictionary.now.tables.avps.items }
     requires rule { IsRule dictionary.now.tables.avps.items rule }
-    requires room { HasRoomInside (option_copied path) depth }
+    requires room { HasRoomInside (option_copied path) groups_allowed }
     ensures { OnOk result (AddsAt findings.old findings.new (option_copied path.entry)
-        (group_located depth dictionary.now.tables.avps.items nth rule.entry.entries.now (avp_of avp.entry))) }
+        (group_located groups_allowed dictionary.now.tables.avps.items nth rule.entry.entries.now (avp_of avp.entry))) }
 {
-    if depth == 0 {
+    if groups_allowed == 0 {
         let (code, failed) = (INVALID_AVP_VALUE, Failed::Found(avp));
         return findings.add_fault(path, Fault { code, failed });
     }
@@ -160,7 +169,15 @@ fn add_group_faults<'a>(
     }
     let list = AvpsRef::Spelled(avp.bytes);
     let Some(path) = path else {
-        return add_faults_under_rule(alloc, findings, None, dictionary, rule, list, depth - 1);
+        return add_faults_under_rule(
+            alloc,
+            findings,
+            None,
+            dictionary,
+            rule,
+            list,
+            groups_allowed - 1,
+        );
     };
     let inside = path.inside(Step {
         nth,
@@ -174,7 +191,7 @@ fn add_group_faults<'a>(
         dictionary,
         rule,
         list,
-        depth - 1,
+        groups_allowed - 1,
     )?;
     Ok(())
 }
@@ -189,17 +206,17 @@ fn add_each_avp_faults<'a>(
     dictionary: &Linked,
     rule: LinkedRule<'_>,
     list: AvpsRef<'a>,
-    depth: u32,
+    groups_allowed: u32,
 ) -> Result<(), NoMemory>
     requires linked { IsLinked dictionary.now }
     requires fit { IsFit dictionary.now.tables.avps.items }
     requires rule { IsRule dictionary.now.tables.avps.items rule }
-    requires room { HasRoomInside (option_copied path) depth }
+    requires room { HasRoomInside (option_copied path) groups_allowed }
     requires none { numbers.old.entries ≡ [] }
     requires size { size_of list < 2 ^ 64 }
     ensures { OnOk result ((l : List Avp) → Lists list.entry l
         → AddsAt findings.old findings.new (option_copied path.entry)
-        (each_located (group_located depth dictionary.now.tables.avps.items) dictionary.now.tables.avps.items
+        (each_located (group_located groups_allowed dictionary.now.tables.avps.items) dictionary.now.tables.avps.items
         rule.entry.entries.now [] l)) }
 {
     let mut left = list;
@@ -208,7 +225,15 @@ fn add_each_avp_faults<'a>(
         let allowed = has_entry_allowing_avps(rule.entries, entry);
         let nth = count_group_occurrence(numbers, path, dictionary, place, avp)?;
         add_avp_faults(
-            alloc, findings, path, nth, dictionary, place, allowed, avp, depth,
+            alloc,
+            findings,
+            path,
+            nth,
+            dictionary,
+            place,
+            allowed,
+            avp,
+            groups_allowed,
         )?;
         left = rest;
     }
@@ -224,15 +249,15 @@ pub(crate) fn add_faults_under_rule<'a>(
     dictionary: &Linked,
     rule: LinkedRule<'_>,
     list: AvpsRef<'a>,
-    depth: u32,
+    groups_allowed: u32,
 ) -> Result<(), NoMemory>
     requires linked { IsLinked dictionary.now }
     requires fit { IsFit dictionary.now.tables.avps.items }
     requires rule { IsRule dictionary.now.tables.avps.items rule }
-    requires room { HasRoomInside (option_copied path) depth }
+    requires room { HasRoomInside (option_copied path) groups_allowed }
     ensures { OnOk result ((l : List Avp) → Lists list.entry l
         → AddsAt findings.old findings.new (option_copied path.entry)
-        (list_located depth dictionary.now.tables.avps.items rule.entry.entries.now l)) }
+        (list_located groups_allowed dictionary.now.tables.avps.items rule.entry.entries.now l)) }
 {
     let mut numbers = IndexMap::new(alloc);
     let done = add_each_avp_faults(
@@ -243,9 +268,9 @@ pub(crate) fn add_faults_under_rule<'a>(
         dictionary,
         rule,
         list,
-        depth,
+        groups_allowed,
     );
     drop(numbers);
     done?;
-    add_entries_faults(alloc, findings, path, &dictionary.tables, rule, list)
+    add_faults_of_all_entries(alloc, findings, path, &dictionary.tables, rule, list)
 }

@@ -1,4 +1,5 @@
-//! The first fault of AVPs under a rule, groups and all (RFC 6733, 4.1, 4.4 and 7.1.5).
+//! The first fault of AVPs under a rule, groups and all, and which AVP is Failed-AVP, whose data isn't read (RFC 6733,
+//! 4.1, 4.4, 7.1.5 and 7.5).
 ghost use Rattle.std.specs.Prelude.{◌≡◌, false, List, slice_get};
 ghost use Rattle.std.specs.Option.{option_and_then};
 ghost use Rattle.dm_wire.specs.declared.avp.Avp.{Avp};
@@ -14,7 +15,7 @@ ghost use Rattle.dm_dict.specs.Rules.{definition};
 use crate::codes::{
     AVP_NOT_ALLOWED, AVP_UNSUPPORTED, FAILED_AVP, INVALID_AVP_LENGTH, INVALID_AVP_VALUE,
 };
-use crate::counts::{MANY_ENTRIES, count_at_entry, zero_counters, zero_counters_if_long_rule};
+use crate::counts::{MANY_ENTRIES, count_avp_at_entry, zero_counters, zero_counters_if_long_rule};
 use crate::data::is_unlisted_value;
 use crate::judged::{Failed, Judged};
 use crate::linked::{Linked, LinkedAvp, LinkedRule};
@@ -38,15 +39,15 @@ fn judge_avp<'a>(
     place: Option<usize>,
     allowed: bool,
     avp: AvpRef<'a>,
-    depth: u32,
+    groups_allowed: u32,
     alloc: Option<Global>,
 ) -> Judged<'a>
     requires linked { IsLinked dictionary.now }
     requires fit { IsFit dictionary.now.tables.avps.items }
     requires def { option_and_then (slice_get dictionary.now.tables.avps.items) place
         ≡ definition dictionary.now.tables.avps.items (avp_of avp) }
-    ensures fault { shown result ≡ first (avp_faults (group_faults depth dictionary.now.tables.avps.items) allowed
-        (avp_of avp.entry) (definition dictionary.now.tables.avps.items (avp_of avp.entry))) }
+    ensures fault { shown result ≡ first (avp_faults (group_faults groups_allowed dictionary.now.tables.avps.items)
+        allowed (avp_of avp.entry) (definition dictionary.now.tables.avps.items (avp_of avp.entry))) }
     ensures missing { finds_missing result ≡ false }
 {
     let failed = Failed::Found(avp);
@@ -73,7 +74,7 @@ fn judge_avp<'a>(
             entries: &def.rule,
             links,
         };
-        return judge_group(dictionary, rule, avp, depth, alloc);
+        return judge_group(dictionary, rule, avp, groups_allowed, alloc);
     }
     match value_fault(def.kind, avp.bytes) {
         Some(ValueFault::WrongLength) => Judged::Bad {
@@ -98,17 +99,17 @@ fn judge_group<'a>(
     dictionary: &Linked,
     rule: LinkedRule<'_>,
     avp: AvpRef<'a>,
-    depth: u32,
+    groups_allowed: u32,
     alloc: Option<Global>,
 ) -> Judged<'a>
     requires linked { IsLinked dictionary.now }
     requires fit { IsFit dictionary.now.tables.avps.items }
     requires rule { IsRule dictionary.now.tables.avps.items rule }
-    ensures fault { shown result ≡ first (group_faults depth dictionary.now.tables.avps.items rule.entry.entries.now
-        (avp_of avp.entry)) }
+    ensures fault { shown result ≡ first (group_faults groups_allowed dictionary.now.tables.avps.items
+        rule.entry.entries.now (avp_of avp.entry)) }
     ensures missing { finds_missing result ≡ false }
 {
-    if depth == 0 {
+    if groups_allowed == 0 {
         return Judged::Bad {
             code: INVALID_AVP_VALUE,
             failed: Failed::Found(avp),
@@ -121,7 +122,7 @@ fn judge_group<'a>(
         };
     }
     let list = AvpsRef::Spelled(avp.bytes);
-    judge_list(dictionary, rule, list, depth - 1, alloc)
+    judge_list(dictionary, rule, list, groups_allowed - 1, alloc)
 }
 
 /// The first fault of a list of AVPs under the rule, of which those before `from` are good, and counted by these
@@ -133,7 +134,7 @@ pub(crate) fn judge_list_from<'a>(
     rule: LinkedRule<'_>,
     list: AvpsRef<'a>,
     from: AvpsRef<'a>,
-    depth: u32,
+    groups_allowed: u32,
     alloc: Option<Global>,
     counts: &mut [u16],
 ) -> Judged<'a>
@@ -141,20 +142,20 @@ pub(crate) fn judge_list_from<'a>(
     requires fit { IsFit dictionary.now.tables.avps.items }
     requires rule { IsRule dictionary.now.tables.avps.items rule }
     requires good { (l : List Avp) → Lists list l → (m : List Avp) × Lists from m
-        × IsGoodBut depth dictionary.now.tables.avps.items rule.entries.now l m counts.old }
+        × IsGoodBut groups_allowed dictionary.now.tables.avps.items rule.entries.now l m counts.old }
     ensures fault { (l : List Avp) → Lists list.entry l
-        → shown result ≡ first (list_faults depth dictionary.now.tables.avps.items rule.entry.entries.now l) }
+        → shown result ≡ first (list_faults groups_allowed dictionary.now.tables.avps.items rule.entry.entries.now l) }
     ensures missing { finds_missing result ≡ false }
 {
     let mut left = from;
     while let Some((avp, rest)) = left.split_first() {
         let (place, at) = look_up_avp_by_marks(dictionary, rule, avp);
         let allowed = has_entry_allowing_avps(rule.entries, at);
-        match judge_avp(dictionary, place, allowed, avp, depth, alloc) {
+        match judge_avp(dictionary, place, allowed, avp, groups_allowed, alloc) {
             Judged::Good => {}
             Judged::Bad { code, failed } => return Judged::Bad { code, failed },
         }
-        count_at_entry(counts, 0, at);
+        count_avp_at_entry(counts, 0, at);
         left = rest;
     }
     judge_entries(&dictionary.tables, rule, counts, list)
@@ -163,22 +164,30 @@ pub(crate) fn judge_list_from<'a>(
 /// The first fault of a list of AVPs under a rule of any length, by counters on the stack.
 #[cycle(judge)]
 #[inline(never)]
-fn judge_list_on_stack<'a>(
+fn judge_list_with_stack_counters<'a>(
     dictionary: &Linked,
     rule: LinkedRule<'_>,
     list: AvpsRef<'a>,
-    depth: u32,
+    groups_allowed: u32,
     alloc: Option<Global>,
 ) -> Judged<'a>
     requires linked { IsLinked dictionary.now }
     requires fit { IsFit dictionary.now.tables.avps.items }
     requires rule { IsRule dictionary.now.tables.avps.items rule }
     ensures fault { (l : List Avp) → Lists list.entry l
-        → shown result ≡ first (list_faults depth dictionary.now.tables.avps.items rule.entry.entries.now l) }
+        → shown result ≡ first (list_faults groups_allowed dictionary.now.tables.avps.items rule.entry.entries.now l) }
     ensures missing { finds_missing result ≡ false }
 {
     let mut counts = zero_counters::<MANY_ENTRIES>();
-    judge_list_from(dictionary, rule, list, list, depth, alloc, &mut counts)
+    judge_list_from(
+        dictionary,
+        rule,
+        list,
+        list,
+        groups_allowed,
+        alloc,
+        &mut counts,
+    )
 }
 
 /// The first fault of a list of AVPs under the rule, where so many groups may stand inside each other; by a counter for
@@ -188,21 +197,21 @@ fn judge_list<'a>(
     dictionary: &Linked,
     rule: LinkedRule<'_>,
     list: AvpsRef<'a>,
-    depth: u32,
+    groups_allowed: u32,
     alloc: Option<Global>,
 ) -> Judged<'a>
     requires linked { IsLinked dictionary.now }
     requires fit { IsFit dictionary.now.tables.avps.items }
     requires rule { IsRule dictionary.now.tables.avps.items rule }
     ensures fault { (l : List Avp) → Lists list.entry l
-        → shown result ≡ first (list_faults depth dictionary.now.tables.avps.items rule.entry.entries.now l) }
+        → shown result ≡ first (list_faults groups_allowed dictionary.now.tables.avps.items rule.entry.entries.now l) }
     ensures missing { finds_missing result ≡ false }
 {
     let Some(mut counts) = zero_counters_if_long_rule(alloc, rule.entries) else {
-        return judge_list_on_stack(dictionary, rule, list, depth, alloc);
+        return judge_list_with_stack_counters(dictionary, rule, list, groups_allowed, alloc);
     };
     let room = counts.as_mut_slice();
-    let judged = judge_list_from(dictionary, rule, list, list, depth, alloc, room);
+    let judged = judge_list_from(dictionary, rule, list, list, groups_allowed, alloc, room);
     drop(counts);
     judged
 }

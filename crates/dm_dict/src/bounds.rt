@@ -31,14 +31,14 @@ impl Model for Bounds {
 }
 
 /// The least counter that keeps an entry.
-fn least_counter(entry: &Entry) -> u16
+fn least_faultless_counter(entry: &Entry) -> u16
     ensures { result ≡ least_bound entry.now }
 {
     entry.min.min(u16::MAX as u32) as u16
 }
 
 /// The greatest counter that keeps an entry; 0, under the least, where its min is more than a counter can tell.
-fn greatest_counter(entry: &Entry) -> u16
+fn greatest_faultless_counter(entry: &Entry) -> u16
     ensures { result ≡ greatest_bound entry.now }
 {
     if entry.min > u16::MAX as u32 {
@@ -65,8 +65,8 @@ fn fill_bounds(lanes: &mut [u16], entries: &[Entry], room: usize)
     ensures { lanes.new ≡ in_lanes least_bound entries.now room ++ in_lanes greatest_bound entries.now room }
 {
     for (at, entry) in entries.iter().enumerate() {
-        lanes[at] = least_counter(entry);
-        lanes[room + at] = greatest_counter(entry);
+        lanes[at] = least_faultless_counter(entry);
+        lanes[room + at] = greatest_faultless_counter(entry);
     }
 }
 
@@ -134,9 +134,9 @@ impl Bounds {
         Ok(Bounds { lanes })
     }
 
-    /// How many bounds there are.
+    /// How many bounds there are, with those behind the last entry's that make eights.
     #[inline(always)]
-    pub(crate) fn len(&self) -> usize
+    pub(crate) fn padded_count(&self) -> usize
         ensures { result ≡ length self.now.mins }
     {
         self.lanes.len() / 2
@@ -144,7 +144,7 @@ impl Bounds {
 
     /// True only where each counter that has bounds lies within them.
     #[inline(always)]
-    pub(crate) fn are_kept_by(&self, counts: &[u16]) -> bool
+    pub(crate) fn are_seen_kept_by(&self, counts: &[u16]) -> bool
         requires { length self.now.mins ≤ length counts.now }
         ensures { result ≡ true → AreWithin self.now counts.now }
     {

@@ -1,4 +1,4 @@
-//! Guesses where a command stands, by its code and its REQ (RFC 6733, 3.1).
+//! Guesses where a command stands, by its code and its REQ, and whether it stands there (RFC 6733, 3.1).
 ghost use Rattle.std.specs.Prelude.{◌≡◌, ◌<◌};
 ghost use Rattle.dm_tables.specs.Definitions.{is_headed};
 ghost use Rattle.dm_dict.specs.Limits.{head_slots};
@@ -18,14 +18,14 @@ pub(crate) fn command_slot(code: u32, request: bool) -> usize
 
 /// Whether the command has the code with REQ and ERR.
 #[inline(always)]
-pub(crate) fn is_command_of(command: &CommandDef, code: u32, request: bool, err: bool) -> bool
+pub(crate) fn is_command_of_code(command: &CommandDef, code: u32, request: bool, err: bool) -> bool
     ensures { result ≡ is_headed code request err command.now }
 {
     code == command.code && request == command.request && err == command.err
 }
 
 /// The guess of a slot once the command at the place, to whose code the slot belongs, is noted: the first one stays.
-fn guess_after_noting(guess: u16, place: usize) -> u16 {
+fn guess_keeping_first(guess: u16, place: usize) -> u16 {
     if guess == NONE {
         place.min(NONE as usize) as u16
     } else {
@@ -38,7 +38,7 @@ pub(crate) fn guesses_of_commands(commands: &[CommandDef]) -> [u16; 64] {
     let mut guesses = [NONE; 64];
     for (place, command) in commands.iter().enumerate() {
         let slot = command_slot(command.code, command.request);
-        guesses[slot] = guess_after_noting(guesses[slot], place);
+        guesses[slot] = guess_keeping_first(guesses[slot], place);
     }
     guesses
 }

@@ -54,7 +54,7 @@ pub(crate) fn zero_counters_if_long_rule(alloc: Option<Global>, rule: &Rule) -> 
 /// One AVP more for the entry at the place, if it has one of the counters, which are for those from `from` on. A
 /// counter stops at 65535.
 #[inline(always)]
-pub(crate) fn count_at_entry(counts: &mut [u16], from: usize, at: Option<usize>)
+pub(crate) fn count_avp_at_entry(counts: &mut [u16], from: usize, at: Option<usize>)
     ensures size { length counts.new ≡ length counts.old }
     ensures counted { (i : ℕ) → i < length counts.new
         → slice_index counts.new i
@@ -68,7 +68,7 @@ pub(crate) fn count_at_entry(counts: &mut [u16], from: usize, at: Option<usize>)
 }
 
 /// How many AVPs of the list each of the entries from `from` on counts that have counters, up to 65535.
-pub(crate) fn count_at_entries_from(
+pub(crate) fn count_avps_at_entries_from(
     tables: &Tables,
     rule: LinkedRule<'_>,
     from: usize,
@@ -86,7 +86,7 @@ pub(crate) fn count_at_entries_from(
     let mut left = list;
     while let Some((avp, rest)) = left.split_first() {
         let (_, at) = look_up_avp(tables, rule, avp);
-        count_at_entry(counts, from, at);
+        count_avp_at_entry(counts, from, at);
         left = rest;
     }
 }

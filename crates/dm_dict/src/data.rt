@@ -1,8 +1,10 @@
 //! What is wrong with the data of an AVP that is no group (RFC 6733, 7.1.5).
-ghost use Rattle.std.specs.Prelude.{◌≡◌, ◌≢◌, [], true, false, nat_eq, None, List, IfSome};
+ghost use Rattle.std.specs.Prelude.{◌≡◌, ◌≢◌, ◌<◌, [], true, false, nat_eq, None, Some, List, length};
+ghost use Rattle.std.specs.Prelude.{slice_get, IfSome};
 ghost use Rattle.dm_wire.specs.declared.avp.Avp.{Avp};
 ghost use Rattle.dm_value.specs.declared.avp_type.AvpType.TheVariants.{Address, DiameterIdentity};
 ghost use Rattle.dm_value.specs.declared.avp_type.AvpType.TheVariants.{Enumerated, Grouped, UTF8String};
+ghost use Rattle.dm_tables.specs.declared.def.AvpDef.{AvpDef};
 ghost use Rattle.dm_tables.specs.declared.values.EnumValue.{EnumValue};
 ghost use Rattle.dm_value.specs.Flaws.{flaw};
 ghost use Rattle.dm_dict.specs.Codes.{missing_avp};
@@ -10,6 +12,7 @@ ghost use Rattle.dm_dict.specs.Faults.{Fault as AFault, is_left_out, data_faults
 ghost use Rattle.dm_dict.specs.Listing.{coded};
 
 use crate::codes::{INVALID_AVP_LENGTH, INVALID_AVP_VALUE};
+use crate::linked::Linked;
 use crate::octet_ranges::are_between;
 use byteorder::{BigEndian, ByteOrder};
 use dm_tables::AvpDef;
@@ -27,8 +30,8 @@ pub(crate) fn is_unlisted_value(def: &AvpDef, octets: &[u8]) -> bool
     }
 }
 
-/// The Result-Code for data of this definition that is no group's, where something is wrong with it.
-pub(crate) fn data_fault(def: &AvpDef, octets: &[u8]) -> Option<u32>
+/// The Result-Code of what is wrong with data of this definition, which is no group's; None where nothing is.
+pub(crate) fn data_fault_code(def: &AvpDef, octets: &[u8]) -> Option<u32>
     requires { def.now.kind ≢ Grouped }
     ensures fault { (a : Avp) (group : List AFault) → a.bytes ≡ octets.now
         → data_faults def.now.kind def.now.values group a ≡ coded result a }
@@ -44,7 +47,7 @@ pub(crate) fn data_fault(def: &AvpDef, octets: &[u8]) -> Option<u32>
 
 /// True only where octets are an Address (RFC 6733, 4.3.1): family 1 wants 4 octets more, family 2 wants 16.
 #[inline(always)]
-fn passes_address(octets: &[u8]) -> bool
+fn is_address_good(octets: &[u8]) -> bool
     ensures { result ≡ true → flaw Address octets.now ≡ None }
 {
     if octets.len() < 2 {
@@ -59,7 +62,7 @@ fn passes_address(octets: &[u8]) -> bool
 
 /// True only where octets are a DiameterIdentity (4.3.1).
 #[inline(always)]
-fn passes_identity(octets: &[u8]) -> bool
+fn is_identity_good(octets: &[u8]) -> bool
     ensures { result ≡ true → flaw DiameterIdentity octets.now ≡ None }
 {
     octets.len() >= 1 && are_between(octets, 0x21, 0x7e)
@@ -67,7 +70,7 @@ fn passes_identity(octets: &[u8]) -> bool
 
 /// True only where octets are UTF-8. Of ASCII it is seen sixteen octets at once.
 #[inline(always)]
-fn passes_text(octets: &[u8]) -> bool
+fn is_text_good(octets: &[u8]) -> bool
     ensures { result ≡ true → flaw UTF8String octets.now ≡ None }
 {
     are_between(octets, 0, 0x7f) || value_fault(AvpType::UTF8String, octets).is_none()
@@ -76,7 +79,7 @@ fn passes_text(octets: &[u8]) -> bool
 /// True only where nothing is wrong with data of this type, which isn't Grouped or Enumerated. Of the commonest types
 /// it is seen at once.
 #[inline(always)]
-pub(crate) fn passes_data(kind: AvpType, octets: &[u8]) -> bool
+pub(crate) fn is_data_good(kind: AvpType, octets: &[u8]) -> bool
     requires group { kind ≢ Grouped }
     requires listed { kind ≢ Enumerated }
     ensures { (a : Avp) (values : List EnumValue) (group : List AFault) → a.bytes ≡ octets.now → result ≡ true
@@ -86,9 +89,22 @@ pub(crate) fn passes_data(kind: AvpType, octets: &[u8]) -> bool
         AvpType::OctetString => true,
         AvpType::Integer32 | AvpType::Unsigned32 | AvpType::Time => octets.len() == 4,
         AvpType::Integer64 | AvpType::Unsigned64 => octets.len() == 8,
-        AvpType::Address => passes_address(octets),
-        AvpType::UTF8String => passes_text(octets),
-        AvpType::DiameterIdentity => passes_identity(octets),
+        AvpType::Address => is_address_good(octets),
+        AvpType::UTF8String => is_text_good(octets),
+        AvpType::DiameterIdentity => is_identity_good(octets),
         _ => value_fault(kind, octets).is_none(),
     }
+}
+
+/// True only where nothing is wrong with octets of the definition at the place, which is that of an Enumerated.
+// (A function of its own in the machine's code too: a definition is looked at where it has a list alone.)
+#[inline(never)]
+pub(crate) fn is_enumerated_good(dictionary: &Linked, place: usize, octets: &[u8]) -> bool
+    requires within { place < length dictionary.now.tables.avps.items }
+    requires kind { (d : AvpDef) → slice_get dictionary.now.tables.avps.items place ≡ Some d → d.kind ≡ Enumerated }
+    ensures { (d : AvpDef) (a : Avp) (group : List AFault) → slice_get dictionary.now.tables.avps.items place ≡ Some d
+        → a.bytes ≡ octets.now → result ≡ true → data_faults d.kind d.values group a ≡ [] }
+{
+    let def = dictionary.avp_def_at(place);
+    octets.len() == 4 && !def.values.leaves_out(BigEndian::read_i32(octets))
 }

@@ -24,7 +24,7 @@ use crate::laws::good_messages_have_typed_values;
 use crate::linked::Linked;
 use crate::{AvpDef, CommandDef, DictFault, Judged, NoMemory, Verdict};
 use dm_dict_text::laws::{
-    defining_texts_have_no_fault, each_text_defines_one_whole_at_most,
+    defining_texts_have_no_fault, each_text_defines_one_dictionary_at_most,
     each_text_has_one_first_fault_at_most,
 };
 use dm_dict_text::{print_tables, read_tables};
@@ -56,7 +56,7 @@ impl Model for Dictionary {
 }
 
 /// The dictionary of the tables, or want of memory for the links of their rules.
-fn linked_dictionary(alloc: Global, tables: Tables) -> Result<Dictionary, NoMemory>
+fn dictionary_of_tables(alloc: Global, tables: Tables) -> Result<Dictionary, NoMemory>
     requires { IsDictionary tables }
     ensures { IfOk result (λ dictionary. dictionary ≡ defined tables) }
 {
@@ -80,7 +80,7 @@ impl Dictionary {
         ensures { IfOk result (λ dictionary. dictionary ≡ base_definitions) }
     {
         let tables = base_tables(alloc)?;
-        linked_dictionary(alloc, tables)
+        dictionary_of_tables(alloc, tables)
     }
 
     /// The definitions of the old dictionary, followed by those of the text in the command code format
@@ -98,11 +98,11 @@ impl Dictionary {
         ensures refuses { (f : DictFault) → IsFirstFault text.now old.now f
             → (result ≡ Err f) ⊎ (result ≡ Err faults_of.NoMemory) }
     {
-        each_text_defines_one_whole_at_most();
+        each_text_defines_one_dictionary_at_most();
         each_text_has_one_first_fault_at_most();
         defining_texts_have_no_fault();
         match read_tables(alloc, text, &old.linked.tables) {
-            Ok(tables) => Ok(linked_dictionary(alloc, tables)?),
+            Ok(tables) => Ok(dictionary_of_tables(alloc, tables)?),
             Err(fault) => Err(fault),
         }
     }

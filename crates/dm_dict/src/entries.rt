@@ -1,4 +1,5 @@
-//! Whether a list has as many AVPs as an entry of a rule wants (RFC 6733, 3.2 and 7.1.5).
+//! Whether a list has as many AVPs as an entry of a rule wants, and what counters alone show of that, of all entries
+//! too; the failed AVP of an entry (RFC 6733, 3.2, 7.1.5 and 7.5).
 ghost use Rattle.std.specs.Prelude.{◌≡◌, ◌<◌, ◌≤◌, true, false, nat_lt, None, List, length, min};
 ghost use Rattle.std.specs.Prelude.{slice_get, slice_index_or, flat_map};
 ghost use Rattle.dm_wire.specs.declared.avp.Avp.{Avp};
@@ -139,8 +140,8 @@ fn judge_entry_by_bounds<'a>(
     }
 }
 
-/// Whether the counter alone shows that the entry has no fault.
-fn is_within_bounds(entry: &Entry, counter: u16) -> bool
+/// True only where the entry has no fault, as the counter alone shows.
+fn counter_shows_entry_good(entry: &Entry, counter: u16) -> bool
     ensures { (avps : List AvpDef) (rule : List Entry) (l : List Avp)
         → counter ≡ min (count avps rule l entry.now) counter_limit → result ≡ true
         → None ≡ first (entry_faults avps rule l entry.now) }
@@ -154,33 +155,34 @@ fn is_within_bounds(entry: &Entry, counter: u16) -> bool
     }
 }
 
-/// Whether the counters alone show that no entry of the rule has a fault.
-fn are_within_bounds(rule: &Rule, counts: &[u16]) -> bool
+/// True only where no entry of the rule has a fault, as the counter of each alone shows.
+fn each_counter_shows_entry_good(rule: &Rule, counts: &[u16]) -> bool
     requires room { length rule.now ≤ length counts.now }
     ensures { (avps : List AvpDef) (l : List Avp) → IsCounted avps rule.now l 0 counts.now → result ≡ true
         → None ≡ first (flat_map (entry_faults avps rule.now l) rule.now) }
 {
     for (at, entry) in rule.as_slice().iter().enumerate() {
-        if !is_within_bounds(entry, counts[at]) {
+        if !counter_shows_entry_good(entry, counts[at]) {
             return false;
         }
     }
     true
 }
 
-/// Whether the counters, where there are enough, alone show that no entry of the rule has a fault: by its bounds, eight
-/// beside each other, where there is a counter for each of them.
+/// True only where no entry of the rule has a fault, as the counters alone show, where there are enough: by its bounds,
+/// eight beside each other, where there is a counter for each of them.
 #[inline(always)]
-pub(crate) fn are_bounds_kept(rule: LinkedRule<'_>, counts: &[u16]) -> bool
+pub(crate) fn counters_show_no_fault(rule: LinkedRule<'_>, counts: &[u16]) -> bool
     requires bounds { rule.links.now.bounds ≡ rule_bounds rule.entries.now }
     ensures { (avps : List AvpDef) (l : List Avp) → IsCounted avps rule.entry.entries.now l 0 counts.now → result ≡ true
         → None ≡ first (flat_map (entry_faults avps rule.entry.entries.now l) rule.entry.entries.now) }
 {
     let bounds = rule.links.bounds();
-    if bounds.len() <= counts.len() {
-        bounds.are_kept_by(counts)
+    if bounds.padded_count() <= counts.len() {
+        bounds.are_seen_kept_by(counts)
     } else {
-        rule.entries.as_slice().len() <= counts.len() && are_within_bounds(rule.entries, counts)
+        rule.entries.as_slice().len() <= counts.len()
+            && each_counter_shows_entry_good(rule.entries, counts)
     }
 }
 
@@ -201,7 +203,7 @@ pub(crate) fn judge_entry<'a>(
         → shown result ≡ first (entry_faults tables.now.avps.items rule.entry.entries.now l e) }
     ensures missing { finds_missing result ≡ false }
 {
-    if is_within_bounds(&rule.entries.as_slice()[at], counter) {
+    if counter_shows_entry_good(&rule.entries.as_slice()[at], counter) {
         Judged::Good
     } else {
         judge_entry_by_bounds(tables, rule, at, counter, list)

@@ -18,14 +18,14 @@ use crate::entries::missing_avp_example;
 use crate::fault::Fault;
 use crate::judged::Failed;
 use crate::linked::LinkedRule;
-use crate::tallies::{Tally, tallies_of};
+use crate::tallies::{Tally, tallies_of_rule};
 use dm_tables::{Entry, Rule, Tables};
 use dm_value::NoMemory;
 use dm_wire::AvpsRef;
 use std::alloc::Global;
 
-/// Lists a fault behind the others.
-fn push_fault<'a>(
+/// Lists a fault of an entry behind the others.
+fn push_fault_of_entry<'a>(
     faults: &mut Vec<Fault<'a>>,
     code: u32,
     failed: Failed<'a>,
@@ -51,12 +51,12 @@ fn push_lack_fault<'a>(
         record { code = missing_avp; failed = example tables.now.avps.items entry.now } ∷ [] else [])) }
 {
     if tally.lack > 0 {
-        return push_fault(faults, MISSING_AVP, missing_avp_example(tables, entry));
+        return push_fault_of_entry(faults, MISSING_AVP, missing_avp_example(tables, entry));
     }
     Ok(())
 }
 
-/// Lists the first AVP past the maximum of the entry, which has this tally, where there is one.
+/// Lists the first AVP past the maximum of the entry, which has this tally, where there is one and the maximum isn't 0.
 fn push_excess_fault<'a>(
     entry: &Entry,
     tally: Tally<'a>,
@@ -70,7 +70,7 @@ fn push_excess_fault<'a>(
             if entry.max == Some(0) {
                 return Ok(());
             }
-            push_fault(faults, AVP_OCCURS_TOO_MANY_TIMES, Failed::Found(avp))
+            push_fault_of_entry(faults, AVP_OCCURS_TOO_MANY_TIMES, Failed::Found(avp))
         }
         None => Ok(()),
     }
@@ -112,7 +112,7 @@ fn push_tallied_faults<'a>(
 }
 
 /// Lists the faults of the entries of the rule.
-pub(crate) fn push_entries_faults<'a>(
+pub(crate) fn push_faults_of_all_entries<'a>(
     alloc: Global,
     tables: &Tables,
     rule: LinkedRule<'_>,
@@ -126,7 +126,7 @@ pub(crate) fn push_entries_faults<'a>(
         → Adds faults.old.items faults.new.items
         (flat_map (entry_faults tables.now.avps.items rule.entry.entries.now l) rule.entry.entries.now)) }
 {
-    let tallies = tallies_of(alloc, tables, rule, list)?;
+    let tallies = tallies_of_rule(alloc, tables, rule, list)?;
     let done = push_tallied_faults(tables, rule.entries, tallies.as_slice(), faults);
     drop(tallies);
     done

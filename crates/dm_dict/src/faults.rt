@@ -30,7 +30,7 @@ fn collect_faults<'a>(
     ensures memory { OnErr result ((l : List Avp) → Lists list.entry l
         → has_none (faults (defined dictionary.now.tables) (record { header = header.now; avps = l })) ≡ false) }
 {
-    let mut findings = Findings::new(alloc);
+    let mut findings = Findings::empty(alloc);
     let done = add_message_faults_if_bad(alloc, &mut findings, None, dictionary, header, list);
     let Findings { faults, located } = findings;
     drop(located);

@@ -19,8 +19,8 @@ pub(crate) struct Findings<'a> {
 }
 
 impl<'a> Findings<'a> {
-    /// None. It never answers want of memory.
-    pub(crate) fn new(alloc: Global) -> Findings<'a>
+    /// No faults. It never answers want of memory.
+    pub(crate) fn empty(alloc: Global) -> Findings<'a>
         ensures faults { result.faults.items ≡ [] }
         ensures located { result.located.items ≡ [] }
     {

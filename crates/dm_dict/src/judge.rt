@@ -1,4 +1,5 @@
-//! The first fault of a message (RFC 6733, 3 and 7).
+//! The first fault of a message: of its command, of the bits of its header, or of its AVPs; which command a header goes
+//! by (RFC 6733, 3 and 7).
 ghost use Rattle.std.specs.Prelude.{◌≡◌, false, List, option_map, IfSome};
 ghost use Rattle.dm_wire.specs.declared.avp.Avp.{Avp};
 ghost use Rattle.dm_wire.specs.Borrowed.{Lists};

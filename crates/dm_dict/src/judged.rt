@@ -42,7 +42,7 @@ pub enum Judged<'a> {
 
 impl Failed<'_> {
     /// A copy of the failed AVP, if there is one.
-    fn copied(self, alloc: Global) -> Result<Option<Avp>, NoMemory>
+    fn copied_avp(self, alloc: Global) -> Result<Option<Avp>, NoMemory>
         ensures found { IfOk result (λ avp. avp ≡ failed_of self.entry) }
         ensures memory { OnErr result (IsSome (failed_of self.entry)) }
     {
@@ -73,7 +73,7 @@ impl Judged<'_> {
         match self {
             Judged::Good => Ok(Verdict::Good),
             Judged::Bad { code, failed } => {
-                let failed = failed.copied(alloc)?;
+                let failed = failed.copied_avp(alloc)?;
                 Ok(Verdict::Bad { code, failed })
             }
         }

@@ -8,14 +8,14 @@ ghost use Rattle.dm_dict.specs.WithoutLists.{OpenDiffersInListsAlone};
 ghost use Rattle.dm_dict.specs.Texts.{NamesAreText};
 ghost use Rattle.dm_dict.specs.Typed.{GoodIsTyped};
 
-use dm_value::laws::flaw_is_fault_or_none;
+use dm_value::laws::flaw_decides_fault_or_value;
 
 /// Where nothing is wrong with a message, each AVP that is defined has a value of its type, in its
 /// groups too, the data of Failed-AVP aside.
 pub fn good_messages_have_typed_values()
     ensures { GoodIsTyped }
 {
-    flaw_is_fault_or_none();
+    flaw_decides_fault_or_value();
 }
 
 /// Where nothing is wrong with a message, its command is defined, the bits of its header are right, each AVP
@@ -24,7 +24,7 @@ pub fn good_messages_have_typed_values()
 pub fn good_messages_keep_rules()
     ensures { GoodKeepsRules }
 {
-    flaw_is_fault_or_none();
+    flaw_decides_fault_or_value();
 }
 
 /// Where each entry is `AVP` or names an AVP that is defined, as in every `Dictionary`, each entry other than

@@ -12,7 +12,7 @@ ghost use Rattle.dm_dict.specs.Links.{rule_links};
 ghost use Rattle.dm_dict.specs.Marks.{AreMarked};
 ghost use Rattle.dm_dict.specs.Linked.{IsLinked, avp_links, command_links};
 
-use crate::command_guesses::{command_slot, guesses_of_commands, is_command_of};
+use crate::command_guesses::{command_slot, guesses_of_commands, is_command_of_code};
 use crate::links::Links;
 use crate::marks::code_marks;
 use crate::rule_links::RuleLinks;
@@ -122,8 +122,8 @@ impl Linked {
         ensures linked { IsLinked result }
     {
         Linked {
-            tables: Tables::new(alloc),
-            avps: RuleLinks::new(alloc),
+            tables: Tables::empty(alloc),
+            avps: RuleLinks::empty(alloc),
             commands: Vec::new(alloc),
             marks: [0; 512],
             heads: guesses_of_commands(&[]),
@@ -140,7 +140,7 @@ impl Linked {
         let heads = guesses_of_commands(tables.commands.as_slice());
         let mut linked = Linked {
             tables,
-            avps: RuleLinks::new(alloc),
+            avps: RuleLinks::empty(alloc),
             commands: Vec::new(alloc),
             marks,
             heads,
@@ -215,11 +215,11 @@ impl Linked {
         requires { IsLinked self.now }
         ensures { option_copied result ≡ find (is_coded code vendor) self.now.tables.avps.items }
     {
-        self.avp_def_at(self.avp_place_by_code(code, vendor))
+        self.optional_avp_def_at(self.avp_place_by_code(code, vendor))
     }
 
     /// The AVP at the place, where there is one.
-    fn avp_def_at(&self, place: Option<usize>) -> Option<&AvpDef>
+    fn optional_avp_def_at(&self, place: Option<usize>) -> Option<&AvpDef>
         ensures { option_copied result ≡ option_and_then (slice_get self.now.tables.avps.items) place }
     {
         match place {
@@ -232,7 +232,7 @@ impl Linked {
 
     /// The definition of the AVP at the place.
     #[inline(always)]
-    pub(crate) fn def_at(&self, place: usize) -> &AvpDef
+    pub(crate) fn avp_def_at(&self, place: usize) -> &AvpDef
         requires { place < length self.now.tables.avps.items }
         ensures { Some result.now ≡ slice_get self.now.tables.avps.items place }
     {
@@ -241,13 +241,13 @@ impl Linked {
 
     /// The links of the rule of the AVP at the place.
     #[inline(always)]
-    pub(crate) fn links_at(&self, place: usize) -> &Links
+    pub(crate) fn avp_links_at(&self, place: usize) -> &Links
         requires linked { IsLinked self.now }
         requires within { place < length self.now.tables.avps.items }
         ensures { (def : AvpDef) → Some def ≡ slice_get self.now.tables.avps.items place
             → result.now ≡ rule_links self.now.tables.avps.items def.rule }
     {
-        self.avps.at(place)
+        self.avps.links_at(place)
     }
 
     /// The definition of an AVP at the place, with the links of its rule.
@@ -261,7 +261,7 @@ impl Linked {
         match place {
             Some(place) if place < self.tables.avps.as_slice().len() => Some(LinkedAvp {
                 def: &self.tables.avps.as_slice()[place],
-                links: self.avps.at(place),
+                links: self.avps.links_at(place),
             }),
             _ => None,
         }
@@ -279,7 +279,7 @@ impl Linked {
         if place >= commands.len() {
             return false;
         }
-        is_command_of(&commands[place], code, request, err)
+        is_command_of_code(&commands[place], code, request, err)
     }
 
     /// The place of the command of a code with REQ and ERR. Where it is the one that is guessed it's known at once.

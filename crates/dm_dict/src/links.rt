@@ -12,7 +12,7 @@ ghost use Rattle.dm_dict.specs.Rows.{has_link, names_avps};
 
 use crate::bounds::Bounds;
 use crate::rows::{Row, rows_of_rule};
-use crate::seats::{CROWDED, seats_of};
+use crate::seats::{CROWDED, seats_of_rows};
 use dm_tables::{NameGuesses, Rule, Tables};
 use dm_value::NoMemory;
 use indexmap::IndexMap;
@@ -61,7 +61,7 @@ impl Debug for LinksShown<'_> {
 
 /// The entries that have a link, by its lowest bits, as they are shown: 255 where there is none, 254 where there are
 /// several.
-fn seats_shown(rows: &[Row]) -> [u8; 128] {
+fn link_slots_for_debug(rows: &[Row]) -> [u8; 128] {
     let mut seats = [255; 128];
     for (at, row) in rows.iter().enumerate() {
         if row.linked {
@@ -83,7 +83,7 @@ impl Debug for Links {
             .field("items", &LinksShown(self.items.as_slice()))
             .field("any", &self.any)
             .field("places", &self.places)
-            .field("seats", &seats_shown(self.items.as_slice()))
+            .field("seats", &link_slots_for_debug(self.items.as_slice()))
             .finish()
     }
 }
@@ -160,7 +160,7 @@ impl Links {
             items: Vec::new(alloc),
             any: None,
             places: IndexMap::new(alloc),
-            seats: seats_of(&[]),
+            seats: seats_of_rows(&[]),
             bounds: Bounds::empty(alloc),
         }
     }
@@ -171,7 +171,7 @@ impl Links {
     {
         let places = first_places_if_long_rule(alloc, items.as_slice())?;
         let any = first_place_of_link(items.as_slice(), None);
-        let seats = seats_of(items.as_slice());
+        let seats = seats_of_rows(items.as_slice());
         Ok(Links {
             items,
             any,
@@ -218,7 +218,7 @@ impl Links {
 
     /// The place of the first entry that has the link, else of the first that has none; found without a seat.
     #[inline(never)]
-    fn entry_place_by_search(&self, definition: usize) -> Option<usize>
+    fn entry_place_without_seat(&self, definition: usize) -> Option<usize>
         ensures { result ≡ option_or (position_from (has_link (Some definition)) 0 self.now.rows)
             (position_from (has_link None) 0 self.now.rows) }
     {
@@ -228,7 +228,7 @@ impl Links {
     /// The place of the first entry that names the AVPs of this code and vendor, and its row, where the code's seat has
     /// it and an AVP may stand there. None doesn't tell that there is no such entry.
     #[inline(always)]
-    pub(crate) fn row_at_seat(&self, code: u32, vendor: Option<u32>) -> Option<(usize, Row)>
+    pub(crate) fn allowed_row_at_seat(&self, code: u32, vendor: Option<u32>) -> Option<(usize, Row)>
         ensures place { IfSome result (λ found. Some found.0 ≡ position_from (names_avps code vendor) 0 self.now.rows) }
         ensures row { IfSome result (λ found. Some found.1 ≡ slice_get self.now.rows found.0) }
         ensures own { IfSome result (λ found. names_avps code vendor found.1 ≡ true) }
@@ -269,7 +269,7 @@ impl Links {
             return self.any;
         }
         if seat == CROWDED {
-            return self.entry_place_by_search(definition);
+            return self.entry_place_without_seat(definition);
         }
         if self.items[usize::from(seat)].names_code_and_vendor(code, vendor) {
             Some(usize::from(seat))

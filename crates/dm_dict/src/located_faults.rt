@@ -1,4 +1,5 @@
-//! All faults of a message, each with the groups round its failed AVP (RFC 6733, 3, 4.4 and 7).
+//! All faults of a message, each with the groups round its failed AVP or, where none are kept, without (RFC 6733, 3,
+//! 4.4 and 7).
 ghost use Rattle.std.specs.Prelude.{◌≡◌, false, List, map, IfOk, IfSome, OnOk, OnErr};
 ghost use Rattle.std.specs.Option.{option_copied};
 ghost use Rattle.dm_wire.specs.declared.avp.Avp.{Avp};
@@ -94,7 +95,7 @@ fn collect_located_faults<'a>(
     ensures memory { OnErr result ((l : List Avp) → Lists list.entry l
         → has_none (faults (defined dictionary.now.tables) (record { header = header.now; avps = l })) ≡ false) }
 {
-    let mut findings = Findings::new(alloc);
+    let mut findings = Findings::empty(alloc);
     let top = Path::top();
     let done = add_message_faults_if_bad(
         alloc,

@@ -9,7 +9,7 @@ const LAST_PLACE: usize = 65534;
 
 /// The mark of a code's lowest bits behind the definition at the place: the first one stays, since the AVPs of the base
 /// protocol are defined first and stand in each message.
-fn mark_after_noting(mark: u16, place: usize) -> u16
+fn mark_keeping_first(mark: u16, place: usize) -> u16
     ensures { result ≡ kept_mark mark place }
 {
     if mark == 0 {
@@ -27,7 +27,7 @@ pub(crate) fn code_marks(avps: &[AvpDef]) -> [u16; 512]
     let mut marks = [0; 512];
     for (place, avp) in avps.iter().enumerate() {
         let bits = (avp.code % 512) as usize;
-        marks[bits] = mark_after_noting(marks[bits], place);
+        marks[bits] = mark_keeping_first(marks[bits], place);
     }
     marks
 }

@@ -13,18 +13,19 @@ ghost use Rattle.dm_dict.specs.Passed.{IsGoodBut, PassesList};
 
 use crate::avps::judge_list_from;
 use crate::counts::{FEW_ENTRIES, MANY_ENTRIES, zero_counters, zero_counters_if_long_rule};
-use crate::entries::are_bounds_kept;
+use crate::entries::counters_show_no_fault;
 use crate::judge::GROUPS;
 use crate::judged::Judged;
 use crate::linked::{Linked, LinkedRule};
-use crate::passing::{pass_avp_with_row, pass_looked_up_avp, pass_undefined_avp};
-use crate::rules::row_by_seat;
+use crate::passing::{pass_avp_with_row, pass_looked_up_avp, pass_undefined_optional_avp};
+use crate::rules::allowed_row_for_avp_by_seat;
 use dm_wire::AvpsRef;
 use std::alloc::Global;
 
-/// The AVPs from the first on that isn't passed as one without a definition; those before it are counted.
+/// The AVPs from the first on that isn't passed as one without a definition that isn't mandatory; those before it are
+/// counted.
 #[inline(always)]
-fn pass_undefined_avps<'a>(
+fn pass_leading_undefined_optional_avps<'a>(
     dictionary: &Linked,
     rule: LinkedRule<'_>,
     list: AvpsRef<'a>,
@@ -39,7 +40,7 @@ fn pass_undefined_avps<'a>(
 {
     let mut behind = list;
     while let Some((avp, rest)) = behind.split_first() {
-        if !pass_undefined_avp(dictionary, rule, avp, counts) {
+        if !pass_undefined_optional_avp(dictionary, rule, avp, counts) {
             return behind;
         }
         behind = rest;
@@ -50,7 +51,7 @@ fn pass_undefined_avps<'a>(
 /// The AVPs from the first on that isn't seen to be good by its row; those before it are counted.
 // (A loop of its own, so that what it works with stays in the processor's registers.)
 #[inline(always)]
-fn pass_avps_with_rows<'a>(
+fn pass_leading_avps_with_rows<'a>(
     dictionary: &Linked,
     rule: LinkedRule<'_>,
     list: AvpsRef<'a>,
@@ -65,7 +66,7 @@ fn pass_avps_with_rows<'a>(
 {
     let mut left = list;
     while let Some((avp, rest)) = left.split_first() {
-        let Some((at, row)) = row_by_seat(dictionary, rule, avp) else {
+        let Some((at, row)) = allowed_row_for_avp_by_seat(dictionary, rule, avp) else {
             return left;
         };
         if !pass_avp_with_row(dictionary, at, row, avp, GROUPS, counts) {
@@ -96,10 +97,10 @@ fn pass_avps_without_row<'a>(
     let Some((avp, rest)) = list.split_first() else {
         return None;
     };
-    if pass_undefined_avp(dictionary, rule, avp, counts) {
-        return Some(pass_undefined_avps(dictionary, rule, rest, counts));
+    if pass_undefined_optional_avp(dictionary, rule, avp, counts) {
+        return Some(pass_leading_undefined_optional_avps(dictionary, rule, rest, counts));
     }
-    if row_by_seat(dictionary, rule, avp).is_none()
+    if allowed_row_for_avp_by_seat(dictionary, rule, avp).is_none()
         && pass_looked_up_avp(dictionary, rule, avp, GROUPS, counts)
     {
         Some(rest)
@@ -125,7 +126,7 @@ fn pass_good_avps<'a>(
 {
     let mut left = list;
     'others: loop {
-        let from = pass_avps_with_rows(dictionary, rule, left, counts);
+        let from = pass_leading_avps_with_rows(dictionary, rule, left, counts);
         let Some(rest) = pass_avps_without_row(dictionary, rule, from, counts) else {
             return from;
         };
@@ -135,7 +136,7 @@ fn pass_good_avps<'a>(
 
 /// The first fault of AVPs under the rule, by these counters, all zero, for the first of its entries.
 #[inline(always)]
-fn judge_with_counters<'a>(
+fn judge_avps_with_counters<'a>(
     dictionary: &Linked,
     rule: LinkedRule<'_>,
     list: AvpsRef<'a>,
@@ -151,7 +152,7 @@ fn judge_with_counters<'a>(
     ensures missing { finds_missing result ≡ false }
 {
     let left = pass_good_avps(dictionary, rule, list, counts);
-    if left.split_first().is_none() && are_bounds_kept(rule, counts) {
+    if left.split_first().is_none() && counters_show_no_fault(rule, counts) {
         return Judged::Good;
     }
     judge_list_from(dictionary, rule, list, left, GROUPS, alloc, counts)
@@ -160,7 +161,7 @@ fn judge_with_counters<'a>(
 /// The first fault of AVPs under a rule of many entries, by counters on the stack.
 // (A function of its own in the machine's code too, as the next one: its locals would be zeroed at its caller's entry.)
 #[inline(never)]
-fn judge_avps_on_stack<'a>(
+fn judge_avps_with_stack_counters<'a>(
     dictionary: &Linked,
     rule: LinkedRule<'_>,
     list: AvpsRef<'a>,
@@ -174,13 +175,13 @@ fn judge_avps_on_stack<'a>(
     ensures missing { finds_missing result ≡ false }
 {
     let mut counts = zero_counters::<MANY_ENTRIES>();
-    judge_with_counters(dictionary, rule, list, alloc, &mut counts)
+    judge_avps_with_counters(dictionary, rule, list, alloc, &mut counts)
 }
 
 /// The first fault of AVPs under a rule of any length; by a counter for each entry of a long one where there is memory
 /// for that.
 #[inline(never)]
-fn judge_avps_under_long_rule<'a>(
+fn judge_avps_with_many_counters<'a>(
     dictionary: &Linked,
     rule: LinkedRule<'_>,
     list: AvpsRef<'a>,
@@ -194,10 +195,10 @@ fn judge_avps_under_long_rule<'a>(
     ensures missing { finds_missing result ≡ false }
 {
     let Some(mut counts) = zero_counters_if_long_rule(alloc, rule.entries) else {
-        return judge_avps_on_stack(dictionary, rule, list, alloc);
+        return judge_avps_with_stack_counters(dictionary, rule, list, alloc);
     };
     let room = counts.as_mut_slice();
-    let judged = judge_with_counters(dictionary, rule, list, alloc, room);
+    let judged = judge_avps_with_counters(dictionary, rule, list, alloc, room);
     drop(counts);
     judged
 }
@@ -218,8 +219,8 @@ pub(crate) fn judge_message_avps<'a>(
     ensures missing { finds_missing result ≡ false }
 {
     if rule.entries.as_slice().len() > FEW_ENTRIES {
-        return judge_avps_under_long_rule(dictionary, rule, list, alloc);
+        return judge_avps_with_many_counters(dictionary, rule, list, alloc);
     }
     let mut counts = zero_counters::<FEW_ENTRIES>();
-    judge_with_counters(dictionary, rule, list, alloc, &mut counts)
+    judge_avps_with_counters(dictionary, rule, list, alloc, &mut counts)
 }

@@ -1,4 +1,4 @@
-//! Which of its code and vendor an AVP is in its list (RFC 6733, 4.1 and 4.4).
+//! Which of its code and vendor a Grouped AVP is in its list, and whether an AVP is one (RFC 6733, 4.1 and 4.4).
 ghost use Rattle.std.specs.Prelude.{◌≡◌, ◌<◌, ◌+◌, ◌^◌, ◌++◌, ◌∷◌, [], ℕ, true, Some, Option};
 ghost use Rattle.std.specs.Prelude.{List, length, slice_get, if◌then◌else◌, IfOk, OnOk};
 ghost use Rattle.std.specs.Option.{option_and_then, option_copied};
@@ -16,8 +16,8 @@ use dm_value::{AvpType, NoMemory};
 use dm_wire::AvpRef;
 use indexmap::IndexMap;
 
-/// Counts one more of a code and vendor, and tells how many there are.
-fn count_code_and_vendor(
+/// Counts one more of a code and vendor, and tells how many there are with it.
+fn count_nth_of_code_and_vendor(
     numbers: &mut IndexMap<(u32, Option<u32>), usize>,
     code: u32,
     vendor: Option<u32>,
@@ -76,7 +76,7 @@ pub(crate) fn count_group_occurrence<'a>(
         return Ok(0);
     };
     if is_group_at(dictionary, place) {
-        return count_code_and_vendor(numbers, avp.code, avp.vendor);
+        return count_nth_of_code_and_vendor(numbers, avp.code, avp.vendor);
     }
     Ok(0)
 }

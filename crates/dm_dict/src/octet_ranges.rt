@@ -41,9 +41,9 @@ fn are_between_by_fours(octets: &[u8], least: u8, most: u8) -> bool
     are_between_singly(left, least, most)
 }
 
-/// A mark for each of sixteen octets: 0 where it lies between the two.
+/// A mark for each of sixteen octets, how far it lies past the two: 0 where it lies between them.
 #[inline(always)]
-fn range_marks(octets: u8x16, least: u8, most: u8) -> u8x16
+fn range_excess(octets: u8x16, least: u8, most: u8) -> u8x16
     requires { least ≤ most }
     ensures { is_unmarked result ≡ list_all (is_in_range least most) octets }
 {
@@ -76,7 +76,7 @@ fn are_inner_octets_between(octets: &[u8], least: u8, most: u8) -> bool
 {
     let mut at = 16;
     while octets.len() - at > 16 {
-        if !are_marks_zero(range_marks(u8x16::from_slice(&octets[at..]), least, most)) {
+        if !are_marks_zero(range_excess(u8x16::from_slice(&octets[at..]), least, most)) {
             return false;
         }
         at += 16;
@@ -91,8 +91,8 @@ fn are_between_by_sixteens(octets: &[u8], least: u8, most: u8) -> bool
     requires long { 16 ≤ length octets.now }
     ensures { result ≡ list_all (is_in_range least most) octets.now }
 {
-    let first = range_marks(u8x16::from_slice(octets), least, most);
-    let last = range_marks(u8x16::from_slice(&octets[octets.len() - 16..]), least, most);
+    let first = range_excess(u8x16::from_slice(octets), least, most);
+    let last = range_excess(u8x16::from_slice(&octets[octets.len() - 16..]), least, most);
     are_marks_zero(higher_mark_in_each_lane(first, last))
         && (octets.len() <= 32 || are_inner_octets_between(octets, least, most))
 }

@@ -87,7 +87,7 @@ pub(crate) fn rows_of_rule(
     let entries = rule.as_slice();
     let mut rows = Vec::with_capacity(alloc, entries.len())?;
     for entry in entries {
-        let link = tables.avp_place_by_guess(guesses, entry.name.as_slice());
+        let link = tables.avp_place_by_own_name_guesses(guesses, entry.name.as_slice());
         push_row(&mut rows, tables.avps.as_slice(), entry, link)?;
     }
     Ok(rows)

@@ -41,7 +41,7 @@ impl Debug for RuleLinks {
     fn fmt<W: Write>(&self, f: &mut Formatter<W>) -> fmt::Result {
         let mut list = f.debug_list();
         for place in 0..self.places.len() {
-            let _ = list.entry(self.at(place));
+            let _ = list.entry(self.links_at(place));
         }
         list.finish()
     }
@@ -73,7 +73,7 @@ fn keep_empty_links_once(alloc: Global, kept: &mut Vec<Links>) -> Result<(), NoM
 
 impl RuleLinks {
     /// The links of no rules. It never answers want of memory.
-    pub(crate) fn new(alloc: Global) -> RuleLinks
+    pub(crate) fn empty(alloc: Global) -> RuleLinks
         ensures { result ≡ [] }
     {
         RuleLinks {
@@ -133,7 +133,7 @@ impl RuleLinks {
 
     /// The links of the rule at the place.
     #[inline(always)]
-    pub(crate) fn at(&self, place: usize) -> &Links
+    pub(crate) fn links_at(&self, place: usize) -> &Links
         requires { place < length self.now }
         ensures { Some result.now ≡ slice_get self.now place }
     {

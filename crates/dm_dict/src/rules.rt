@@ -113,7 +113,7 @@ pub(crate) fn look_up_avp_by_marks(
 /// The place of the entry under which the AVP stands, and its row, where it is the one at the seat of its code; else
 /// None.
 #[inline(always)]
-pub(crate) fn row_by_seat(
+pub(crate) fn allowed_row_for_avp_by_seat(
     dictionary: &Linked,
     rule: LinkedRule<'_>,
     avp: AvpRef<'_>,
@@ -124,7 +124,7 @@ pub(crate) fn row_by_seat(
     ensures { IfSome result (λ found. StandsAt dictionary.now.tables.avps.items rule.entry.entries.now
         (avp_of avp.entry) found.0 found.1) }
 {
-    match rule.links.row_at_seat(avp.code, avp.vendor) {
+    match rule.links.allowed_row_at_seat(avp.code, avp.vendor) {
         Some((at, row)) => Some((at, row)),
         None => None,
     }

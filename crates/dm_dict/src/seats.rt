@@ -20,7 +20,7 @@ fn empty_seats() -> [u8; 128]
 
 /// The entry at the place takes the slot of its code, if it is linked; the slot is crowded where there is another, and
 /// where no AVP may stand there.
-fn note_seat(seats: &mut [u8; 128], row: &Row, place: usize)
+fn take_or_crowd_seat(seats: &mut [u8; 128], row: &Row, place: usize)
     ensures { (i : ℕ) → i < seat_slots
         → slice_index seats.new i ≡ seat_with row.now place i (slice_index seats.old i) }
 {
@@ -35,12 +35,12 @@ fn note_seat(seats: &mut [u8; 128], row: &Row, place: usize)
 }
 
 /// The seats of the entries of a rule that have these rows.
-pub(crate) fn seats_of(rows: &[Row]) -> [u8; 128]
+pub(crate) fn seats_of_rows(rows: &[Row]) -> [u8; 128]
     ensures { IsSeated rows.now result }
 {
     let mut seats = empty_seats();
     for (place, row) in rows.iter().enumerate() {
-        note_seat(&mut seats, row, place);
+        take_or_crowd_seat(&mut seats, row, place);
     }
     seats
 }

@@ -104,7 +104,7 @@ fn tally_avps<'a>(
 }
 
 /// The tallies of the entries of the rule, which have counted the AVPs of the list, or want of memory for them.
-pub(crate) fn tallies_of<'a>(
+pub(crate) fn tallies_of_rule<'a>(
     alloc: Global,
     tables: &Tables,
     rule: LinkedRule<'_>,

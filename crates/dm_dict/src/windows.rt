@@ -1,5 +1,5 @@
-//! Whether a list has as many AVPs as the entries of a rule want: those that have counters, and those behind them, a
-//! window of entries at a time (RFC 6733, 3.2 and 7.1.5).
+//! Whether a list has as many AVPs as the entries of a rule want: those that have counters, and those behind them that
+//! have a bound, a window of entries at a time (RFC 6733, 3.2 and 7.1.5).
 ghost use Rattle.std.specs.Prelude.{◌≡◌, ◌+◌, ◌<◌, ◌≤◌, ◌⊎◌, ℕ, true, false, List, length, drop, slice_index};
 ghost use Rattle.std.specs.Prelude.{slice_index_or, flat_map};
 ghost use Rattle.std.specs.Option.{option_or};
@@ -17,7 +17,7 @@ ghost use Rattle.dm_dict.specs.Judgement.{shown};
 ghost use Rattle.dm_dict.specs.Limits.{middle_window, window};
 
 use crate::counts::{
-    MANY_ENTRIES, MIDDLE_WINDOW, SHORT_WINDOW, WINDOW, count_at_entries_from, zero_counters,
+    MANY_ENTRIES, MIDDLE_WINDOW, SHORT_WINDOW, WINDOW, count_avps_at_entries_from, zero_counters,
 };
 use crate::entries::judge_entry;
 use crate::judged::Judged;
@@ -26,7 +26,7 @@ use dm_tables::{Entry, Rule, Tables};
 use dm_wire::AvpsRef;
 
 /// Whether the number of the entry's AVPs has a bound: a min, or a max other than 0.
-fn is_bounded(entry: &Entry) -> bool
+fn has_min_or_positive_max(entry: &Entry) -> bool
     ensures { result ≡ is_bounded entry.now }
 {
     match entry.max {
@@ -45,7 +45,7 @@ fn next_bounded_entry(rule: &Rule, from: usize) -> usize
         ≡ first (flat_map (entry_faults avps rule.now l) (drop result rule.now)) }
 {
     let mut at = from;
-    while at < rule.as_slice().len() && !is_bounded(&rule.as_slice()[at]) {
+    while at < rule.as_slice().len() && !has_min_or_positive_max(&rule.as_slice()[at]) {
         at += 1;
     }
     at
@@ -116,7 +116,7 @@ fn count_and_judge_window<'a>(
         (drop (from + length counts.old) rule.entry.entries.now))) }
     ensures missing { finds_missing result ≡ false }
 {
-    count_at_entries_from(tables, rule, from, list, counts);
+    count_avps_at_entries_from(tables, rule, from, list, counts);
     judge_window(tables, rule, from, counts, list)
 }
 
@@ -147,7 +147,7 @@ fn judge_sized_window<'a, const SIZE: usize>(
 
 /// The first fault of the last entries, those from `from` on, where they are no more than so many.
 #[inline(always)]
-fn judge_last_window<'a, const SIZE: usize>(
+fn judge_last_sized_window<'a, const SIZE: usize>(
     tables: &Tables,
     rule: LinkedRule<'_>,
     from: usize,
@@ -187,11 +187,11 @@ fn judge_last_entries<'a>(
 {
     let left = rule.entries.as_slice().len() - from;
     if left > SHORT_WINDOW {
-        judge_last_window::<MIDDLE_WINDOW>(tables, rule, from, list)
+        judge_last_sized_window::<MIDDLE_WINDOW>(tables, rule, from, list)
     } else if left > MANY_ENTRIES {
-        judge_last_window::<SHORT_WINDOW>(tables, rule, from, list)
+        judge_last_sized_window::<SHORT_WINDOW>(tables, rule, from, list)
     } else {
-        judge_last_window::<MANY_ENTRIES>(tables, rule, from, list)
+        judge_last_sized_window::<MANY_ENTRIES>(tables, rule, from, list)
     }
 }
 

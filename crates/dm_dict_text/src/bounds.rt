@@ -5,7 +5,7 @@ ghost use Rattle.dm_dict_text.specs.Meaning.{number, plain_min, starred_min, low
 ghost use Rattle.dm_dict_text.specs.Faults.{first_dict_fault, option_faults, above_faults, bound_faults};
 
 use crate::DictFault;
-use crate::number::number_of_word;
+use crate::number::number_of_digit_word;
 use dm_grammar::{EntryItem, Form, Token};
 
 /// The least number of an entry of this form without a qualifier.
@@ -36,7 +36,7 @@ fn qualifier_min(form: Form, word: Option<Token<'_>>) -> Result<u32, DictFault>
     ensures fault { IfErr result (λ f. first_dict_fault (option_faults u32.MAX (view_option word.entry)) ≡ Some f) }
 {
     match word {
-        Some(word) => number_of_word(word, u32::MAX),
+        Some(word) => number_of_digit_word(word, u32::MAX),
         None => Ok(default_qualifier_min(form)),
     }
 }
@@ -51,7 +51,7 @@ fn qualifier_max(min: u32, word: Option<Token<'_>>) -> Result<Option<u32>, DictF
     let Some(word) = word else {
         return Ok(None);
     };
-    let max = number_of_word(word, u32::MAX)?;
+    let max = number_of_digit_word(word, u32::MAX)?;
     if max < min {
         Err(DictFault::Range(word.line))
     } else {

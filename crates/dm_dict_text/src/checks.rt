@@ -1,4 +1,4 @@
-//! Whether the name and the numbers of an item are good and new.
+//! Whether the name and the numbers of an item are good and new, and which names are defined, those of strays too.
 ghost use Rattle.std.specs.Prelude.{◌≡◌, [], Some, map, nat_eq, option_map, unwrap_or, OnOk, IfOk, IfErr};
 ghost use Rattle.std.specs.List.{list_any};
 ghost use Rattle.std.specs.Cmp.Lexicographic.{pointwise};
@@ -11,7 +11,7 @@ ghost use Rattle.dm_dict_text.specs.Faults.{first_dict_fault, is_defined, is_tak
 ghost use Rattle.dm_dict_text.specs.Faults.{reference_faults, name_faults, code_faults, title_faults, head_faults};
 
 use crate::DictFault;
-use crate::number::{number_of_optional_word, number_of_word};
+use crate::number::{number_of_digit_word, number_of_optional_digit_word};
 use dm_grammar::{CommandItem, Token, VendorItem, VendorWord};
 use dm_tables::{NameGuesses, Tables};
 use indexmap::IndexSet;
@@ -30,7 +30,7 @@ pub fn check_vendor(tables: &Tables, item: &VendorItem<'_>) -> Result<u32, DictF
     if tables.vendors.has_name(item.name.text) {
         return Err(DictFault::Duplicate(item.name.line));
     }
-    let number = number_of_word(item.number, u32::MAX)?;
+    let number = number_of_digit_word(item.number, u32::MAX)?;
     if tables.vendors.has_number(number) {
         return Err(DictFault::Duplicate(item.number.line));
     }
@@ -55,7 +55,7 @@ pub fn is_avp_defined(
     requires guesses { AreGuessed tables.now.avps.items guesses.now.places.items }
     ensures { result ≡ is_defined (making tables.now strays.now) name.now }
 {
-    tables.has_avp_named_by_guess(guesses, name) || is_stray(strays, name)
+    tables.has_avp_by_own_name_guesses(guesses, name) || is_stray(strays, name)
 }
 
 /// Checks the name of an AVP, which must be new and not `AVP`; or gives its first fault.
@@ -92,7 +92,7 @@ fn vendor_number_of_word(
 {
     match word {
         None => Ok(Some(None)),
-        Some(VendorWord::Numbered(word)) => Ok(Some(Some(number_of_word(word, u32::MAX)?))),
+        Some(VendorWord::Numbered(word)) => Ok(Some(Some(number_of_digit_word(word, u32::MAX)?))),
         Some(VendorWord::Named(word)) => match tables.vendors.number_of(word.text) {
             Some(number) => Ok(Some(Some(number))),
             None => Ok(None),
@@ -101,7 +101,7 @@ fn vendor_number_of_word(
 }
 
 /// Whether an AVP has the code and vendor. Where the vendor isn't known, the code isn't compared.
-fn is_code_taken(tables: &Tables, code: u32, vendor: Option<Option<u32>>) -> bool
+fn is_avp_code_taken(tables: &Tables, code: u32, vendor: Option<Option<u32>>) -> bool
     requires { IsIndexed tables.now }
     ensures { result ≡ is_taken tables.now.avps.items code vendor }
 {
@@ -113,7 +113,7 @@ fn is_code_taken(tables: &Tables, code: u32, vendor: Option<Option<u32>>) -> boo
 
 /// Checks the code of an AVP and its vendor. Gives both, or the first fault. No vendor is known where it is a name that
 /// no vendor has.
-pub fn check_avp_code(
+pub fn check_avp_code_and_vendor(
     tables: &Tables,
     code: Token<'_>,
     vendor: Option<VendorWord<'_>>,
@@ -128,10 +128,10 @@ pub fn check_avp_code(
         (code_faults (defined tables.now) (view_word code.entry) (view_reference_option vendor.entry)) ≡ Some f) }
 {
     let line = code.line;
-    let code = number_of_word(code, u32::MAX)?;
+    let code = number_of_digit_word(code, u32::MAX)?;
     match vendor_number_of_word(tables, vendor) {
         Ok(vendor) => {
-            if is_code_taken(tables, code, vendor) {
+            if is_avp_code_taken(tables, code, vendor) {
                 Err(DictFault::Duplicate(line))
             } else {
                 Ok((code, vendor))
@@ -155,9 +155,12 @@ pub fn check_command_name(tables: &Tables, word: Token<'_>) -> Result<(), DictFa
     }
 }
 
-/// Checks the code and the Application-ID of a command. Gives both, or the first fault; the Application-ID is 0 where
-/// none is written.
-pub fn check_command_head(tables: &Tables, item: &CommandItem<'_>) -> Result<(u32, u32), DictFault>
+/// Checks the code of a command, which no other with the same REQ and ERR may have, and its Application-ID. Gives both,
+/// or the first fault; the Application-ID is 0 where none is written.
+pub fn check_command_code_and_application(
+    tables: &Tables,
+    item: &CommandItem<'_>,
+) -> Result<(u32, u32), DictFault>
     requires { IsIndexed tables.now }
     ensures code { IfOk result (λ x. x.0 ≡ number (view_command item.now).code) }
     ensures application { IfOk result (λ x. x.1 ≡ unwrap_or (option_map number (view_command item.now).application) 0) }
@@ -165,10 +168,10 @@ pub fn check_command_head(tables: &Tables, item: &CommandItem<'_>) -> Result<(u3
     ensures fault { IfErr result (λ f. first_dict_fault (head_faults tables.now.commands.items (view_command item.now))
         ≡ Some f) }
 {
-    let code = number_of_word(item.code, COMMAND_LIMIT)?;
+    let code = number_of_digit_word(item.code, COMMAND_LIMIT)?;
     if tables.has_command_of_code(code, item.request, item.error) {
         return Err(DictFault::Duplicate(item.code.line));
     }
-    let application = number_of_optional_word(item.application, u32::MAX)?;
+    let application = number_of_optional_digit_word(item.application, u32::MAX)?;
     Ok((code, application.unwrap_or(0)))
 }

@@ -19,10 +19,11 @@ ghost use Rattle.dm_grammar.specs.Items.Written.{AvpIs, GroupIs};
 
 use crate::DictFault;
 use crate::checks::{
-    check_avp_code, check_avp_name, check_command_head, check_command_name, check_vendor,
+    check_avp_code_and_vendor, check_avp_name, check_command_code_and_application,
+    check_command_name, check_vendor,
 };
 use crate::entries::rule_of_items;
-use crate::kind::type_named;
+use crate::kind::ungrouped_type_named;
 use crate::value_list::value_list_of_items;
 use dm_grammar::{AvpItem, CommandItem, GroupItem, Item, VendorItem};
 use dm_tables::{AvpDef, CommandDef, NameGuesses, Rule, Tables, Values, VendorDef};
@@ -105,14 +106,14 @@ fn define_avp<'a>(
     ensures fault { IfErr result (StopsAtFirst (avp_item_faults (making tables.old strays.old) (view_avp item.now))) }
 {
     check_avp_name(tables, guesses, strays, item.name)?;
-    let (code, vendor) = check_avp_code(tables, item.code, item.vendor)?;
+    let (code, vendor) = check_avp_code_and_vendor(tables, item.code, item.vendor)?;
     let name = Octets::from_slice(alloc, item.name.text)?;
     let values = value_list_of_items(alloc, item.values.as_slice())?;
     let avp = AvpDef {
         name,
         code,
         vendor: vendor.unwrap_or(None),
-        kind: type_named(item.kind.text).unwrap_or(AvpType::OctetString),
+        kind: ungrouped_type_named(item.kind.text).unwrap_or(AvpType::OctetString),
         rule: Rule::empty(alloc),
         values,
     };
@@ -139,7 +140,7 @@ fn define_group<'a>(
         (group_item_faults (making tables.old strays.old) (view_group item.now))) }
 {
     check_avp_name(tables, guesses, strays, item.name)?;
-    let (code, vendor) = check_avp_code(tables, item.code, item.vendor)?;
+    let (code, vendor) = check_avp_code_and_vendor(tables, item.code, item.vendor)?;
     let name = Octets::from_slice(alloc, item.name.text)?;
     let rule = rule_of_items(alloc, item.rule.as_slice())?;
     let avp = AvpDef {
@@ -169,7 +170,7 @@ fn define_command(
         (command_item_faults tables.old.commands.items (view_command item.now))) }
 {
     check_command_name(tables, item.name)?;
-    let (code, application) = check_command_head(tables, item)?;
+    let (code, application) = check_command_code_and_application(tables, item)?;
     let command = CommandDef {
         name: Octets::from_slice(alloc, item.name.text)?,
         code,

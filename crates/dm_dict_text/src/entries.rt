@@ -1,4 +1,5 @@
-//! The rule of an item of a dictionary text (RFC 6733, 3.2).
+//! The entries of an item of a dictionary text, checked one after the other, and the rule that they make (RFC 6733,
+//! 3.2).
 ghost use Rattle.std.specs.Prelude.{◌≡◌, ◌++◌, [], ◌∷◌, true, false, map, fold, OnOk, IfOk, IfErr};
 ghost use Rattle.dm_grammar.specs.Views.{view_entry};
 ghost use Rattle.dm_tables.specs.Forms.{form_number};
@@ -48,7 +49,7 @@ impl<'a> Entries<'a> {
     ghost use Rattle.dm_dict_text.specs.Entries.{IsNoted};
 
     /// No entries, of a rule that will have so many. It never answers want of memory.
-    fn new(alloc: Global, count: usize) -> Entries<'a>
+    fn empty_for(alloc: Global, count: usize) -> Entries<'a>
         ensures empty { result.entries.items ≡ [] }
         ensures noted { IsNoted result }
     {
@@ -181,7 +182,7 @@ fn entries_of_items(alloc: Global, items: &[EntryItem<'_>]) -> Result<Vec<Entry>
     ensures good { IfOk result (λ _. rule_faults (map view_entry items.now) ≡ []) }
     ensures fault { IfErr result (StopsAtFirst (rule_faults (map view_entry items.now))) }
 {
-    let mut rule = Entries::new(alloc, items.len());
+    let mut rule = Entries::empty_for(alloc, items.len());
     let done = rule.reserve_and_add_all(alloc, items);
     let Entries { entries, .. } = rule;
     done.and(Ok(entries))

@@ -36,17 +36,17 @@ static KINDS: [KindRow; 11] = [
 ];
 
 /// The types with a name, but for Grouped.
-fn kind_rows() -> &'static [KindRow]
+fn ungrouped_type_rows() -> &'static [KindRow]
     ensures { map kind_row result.now ≡ kind_names }
 {
     &KINDS
 }
 
 /// The type of a name, but for Grouped.
-pub fn type_named(name: &[u8]) -> Option<AvpType>
+pub fn ungrouped_type_named(name: &[u8]) -> Option<AvpType>
     ensures { result ≡ type_named name.now }
 {
-    for row in kind_rows() {
+    for row in ungrouped_type_rows() {
         if name == row.name {
             return Some(row.kind);
         }

@@ -4,10 +4,10 @@ ghost use Rattle.dm_dict_text.specs.FirstOutcome.{DefinesFirstVersion, FaultsOfF
 ghost use Rattle.dm_dict_text.specs.FirstVersion.{PrintsFirstVersion};
 ghost use Rattle.dm_dict_text.specs.OneOutcome.{OneDefinition, OneFault, NoDefinitionRefused, SomeOutcome};
 
-use dm_grammar::{tokens_are_items_or_have_a_fault, unmarked_items_are_first_version};
+use dm_grammar::{tokens_are_items_or_have_a_fault, unmarked_texts_have_first_version_items};
 
-/// Behind the same old definitions a text defines one whole at most (RFC 6733, 3.2).
-pub fn each_text_defines_one_whole_at_most()
+/// Behind the same old definitions a text defines one dictionary at most (RFC 6733, 3.2).
+pub fn each_text_defines_one_dictionary_at_most()
     ensures { OneDefinition }
 {
     tokens_are_items_or_have_a_fault();
@@ -48,5 +48,5 @@ pub fn unmarked_texts_read_as_first_version()
     ensures fault { FaultsOfFirstVersion }
     ensures stays { StaysFirstVersion }
 {
-    unmarked_items_are_first_version();
+    unmarked_texts_have_first_version_items();
 }

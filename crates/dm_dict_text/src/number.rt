@@ -9,7 +9,7 @@ use crate::DictFault;
 use dm_grammar::Token;
 
 /// The number that decimal digits write, where it is at most `limit`; else None.
-fn number_within(digits: &[u8], limit: u32) -> Option<u32>
+fn number_if_within_limit(digits: &[u8], limit: u32) -> Option<u32>
     ensures { result ≡ within limit (number_of digits.now) }
 {
     let limit = u64::from(limit);
@@ -24,20 +24,20 @@ fn number_within(digits: &[u8], limit: u32) -> Option<u32>
 }
 
 /// The number of a word, or the fault `Range` where it is above `limit`.
-pub fn number_of_word(word: Token<'_>, limit: u32) -> Result<u32, DictFault>
+pub fn number_of_digit_word(word: Token<'_>, limit: u32) -> Result<u32, DictFault>
     ensures value { IfOk result (λ n. n ≡ number (view_word word.entry)) }
     ensures small { IfOk result (λ n. n ≤ limit) }
     ensures good { IfOk result (λ _. range_faults limit (view_word word.entry) ≡ []) }
     ensures fault { IfErr result (λ f. first_dict_fault (range_faults limit (view_word word.entry)) ≡ Some f) }
 {
-    match number_within(word.text, limit) {
+    match number_if_within_limit(word.text, limit) {
         Some(number) => Ok(number),
         None => Err(DictFault::Range(word.line)),
     }
 }
 
 /// The number of a word that may be missing, or the fault `Range` where it is above `limit`.
-pub fn number_of_optional_word(
+pub fn number_of_optional_digit_word(
     word: Option<Token<'_>>,
     limit: u32,
 ) -> Result<Option<u32>, DictFault>
@@ -46,7 +46,7 @@ pub fn number_of_optional_word(
     ensures fault { IfErr result (λ f. first_dict_fault (option_faults limit (view_option word.entry)) ≡ Some f) }
 {
     match word {
-        Some(word) => Ok(Some(number_of_word(word, limit)?)),
+        Some(word) => Ok(Some(number_of_digit_word(word, limit)?)),
         None => Ok(None),
     }
 }

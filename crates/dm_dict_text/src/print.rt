@@ -1,4 +1,4 @@
-//! The text of definitions (RFC 6733, 3.2).
+//! The text of definitions, appended piece by piece, and the version that they want (RFC 6733, 3.2).
 ghost use Rattle.std.specs.Prelude.{◌≡◌, ◌++◌, OnOk};
 ghost use Rattle.std.specs.List.{flat_map, list_all};
 ghost use Rattle.dm_dict_text.specs.Printed.{type_name, spaced, spaced_number, spaced_option, decimal_option};
@@ -34,7 +34,7 @@ fn name_of_type(kind: AvpType) -> &'static [u8]
     }
 }
 
-/// The brackets of a form, with their spaces.
+/// The brackets of a form: the opening one with a space on each side, the closing one with a space before it.
 fn spaced_brackets(form: Form) -> (&'static [u8], &'static [u8])
     ensures open { result.0.now ≡ opening_bracket form }
     ensures close { result.1.now ≡ closing_bracket form }
@@ -46,6 +46,7 @@ fn spaced_brackets(form: Form) -> (&'static [u8], &'static [u8])
     }
 }
 
+/// Appends octets as they are.
 fn push_piece(text: &mut Vec<u8>, piece: &[u8]) -> Result<(), NoMemory>
     ensures { OnOk result (text.new.items ≡ text.old.items ++ piece.now) }
 {
@@ -53,7 +54,7 @@ fn push_piece(text: &mut Vec<u8>, piece: &[u8]) -> Result<(), NoMemory>
     Ok(())
 }
 
-fn push_space_and_number(text: &mut Vec<u8>, number: u32) -> Result<(), NoMemory>
+fn push_spaced_number(text: &mut Vec<u8>, number: u32) -> Result<(), NoMemory>
     ensures { OnOk result (text.new.items ≡ text.old.items ++ spaced_number number) }
 {
     push_piece(text, b" ")?;
@@ -61,11 +62,11 @@ fn push_space_and_number(text: &mut Vec<u8>, number: u32) -> Result<(), NoMemory
     Ok(())
 }
 
-fn push_space_and_number_if_some(text: &mut Vec<u8>, number: Option<u32>) -> Result<(), NoMemory>
+fn push_spaced_number_if_some(text: &mut Vec<u8>, number: Option<u32>) -> Result<(), NoMemory>
     ensures { OnOk result (text.new.items ≡ text.old.items ++ spaced_option number) }
 {
     match number {
-        Some(number) => push_space_and_number(text, number),
+        Some(number) => push_spaced_number(text, number),
         None => Ok(()),
     }
 }
@@ -85,11 +86,11 @@ fn push_word_if_set(text: &mut Vec<u8>, flag: bool, word: &[u8]) -> Result<(), N
     if flag { push_piece(text, word) } else { Ok(()) }
 }
 
-fn push_entry(text: &mut Vec<u8>, entry: &Entry) -> Result<(), NoMemory>
+fn push_spaced_entry(text: &mut Vec<u8>, entry: &Entry) -> Result<(), NoMemory>
     ensures { OnOk result (text.new.items ≡ text.old.items ++ entry_text entry.now) }
 {
     let (open, close) = spaced_brackets(entry.form);
-    push_space_and_number(text, entry.min)?;
+    push_spaced_number(text, entry.min)?;
     push_piece(text, b"*")?;
     push_decimal_if_some(text, entry.max)?;
     push_piece(text, open)?;
@@ -97,44 +98,44 @@ fn push_entry(text: &mut Vec<u8>, entry: &Entry) -> Result<(), NoMemory>
     push_piece(text, close)
 }
 
-fn push_entries(text: &mut Vec<u8>, entries: &[Entry]) -> Result<(), NoMemory>
+fn push_spaced_entries(text: &mut Vec<u8>, entries: &[Entry]) -> Result<(), NoMemory>
     ensures { OnOk result (text.new.items ≡ text.old.items ++ rule_text entries.now) }
 {
     for entry in entries {
-        push_entry(text, entry)?;
+        push_spaced_entry(text, entry)?;
     }
     Ok(())
 }
 
 /// What stands behind the numbers of a head: its end, the rule and the end of the line.
-fn push_head_end_and_rule(text: &mut Vec<u8>, rule: &Rule) -> Result<(), NoMemory>
+fn push_head_end_rule_and_lf(text: &mut Vec<u8>, rule: &Rule) -> Result<(), NoMemory>
     ensures { OnOk result (text.new.items ≡ text.old.items ++ rule_end rule.now) }
 {
     push_piece(text, b" >")?;
-    push_entries(text, rule.as_slice())?;
+    push_spaced_entries(text, rule.as_slice())?;
     push_piece(text, b"\n")
 }
 
-fn push_space_and_type_name(text: &mut Vec<u8>, kind: AvpType) -> Result<(), NoMemory>
+fn push_spaced_type_name(text: &mut Vec<u8>, kind: AvpType) -> Result<(), NoMemory>
     ensures { OnOk result (text.new.items ≡ text.old.items ++ spaced (type_name kind)) }
 {
     push_piece(text, b" ")?;
     push_piece(text, name_of_type(kind))
 }
 
-fn push_value(text: &mut Vec<u8>, value: &EnumValue) -> Result<(), NoMemory>
+fn push_spaced_value(text: &mut Vec<u8>, value: &EnumValue) -> Result<(), NoMemory>
     ensures { OnOk result (text.new.items ≡ text.old.items ++ listed_value_text value.now) }
 {
     push_piece(text, b" ")?;
     push_piece(text, value.name.as_slice())?;
-    push_space_and_number(text, value.number.unsigned_abs())
+    push_spaced_number(text, value.number.unsigned_abs())
 }
 
 fn push_comma_and_value(text: &mut Vec<u8>, value: &EnumValue) -> Result<(), NoMemory>
     ensures { OnOk result (text.new.items ≡ text.old.items ++ next_value value.now) }
 {
     push_piece(text, b",")?;
-    push_value(text, value)
+    push_spaced_value(text, value)
 }
 
 fn push_further_values(text: &mut Vec<u8>, values: &[EnumValue]) -> Result<(), NoMemory>
@@ -147,14 +148,14 @@ fn push_further_values(text: &mut Vec<u8>, values: &[EnumValue]) -> Result<(), N
 }
 
 /// A list of values, where there is one.
-fn push_value_list(text: &mut Vec<u8>, values: &[EnumValue]) -> Result<(), NoMemory>
+fn push_spaced_value_list(text: &mut Vec<u8>, values: &[EnumValue]) -> Result<(), NoMemory>
     ensures { OnOk result (text.new.items ≡ text.old.items ++ value_list_text values.now) }
 {
     match values {
         [] => Ok(()),
         [first, more @ ..] => {
             push_piece(text, b" {")?;
-            push_value(text, first)?;
+            push_spaced_value(text, first)?;
             push_further_values(text, more)?;
             push_piece(text, b" }")
         }
@@ -162,12 +163,12 @@ fn push_value_list(text: &mut Vec<u8>, values: &[EnumValue]) -> Result<(), NoMem
 }
 
 /// What stands behind the code of an AVP that isn't Grouped.
-fn push_ungrouped_avp_end(text: &mut Vec<u8>, avp: &AvpDef) -> Result<(), NoMemory>
+fn push_type_vendor_values_and_lf(text: &mut Vec<u8>, avp: &AvpDef) -> Result<(), NoMemory>
     ensures { OnOk result (text.new.items ≡ text.old.items ++ plain_end avp.now) }
 {
-    push_space_and_type_name(text, avp.kind)?;
-    push_space_and_number_if_some(text, avp.vendor)?;
-    push_value_list(text, avp.values.as_slice())?;
+    push_spaced_type_name(text, avp.kind)?;
+    push_spaced_number_if_some(text, avp.vendor)?;
+    push_spaced_value_list(text, avp.values.as_slice())?;
     push_piece(text, b"\n")
 }
 
@@ -176,16 +177,16 @@ fn push_ungrouped_avp_line(text: &mut Vec<u8>, avp: &AvpDef) -> Result<(), NoMem
 {
     push_piece(text, b"@ ")?;
     push_piece(text, avp.name.as_slice())?;
-    push_space_and_number(text, avp.code)?;
-    push_ungrouped_avp_end(text, avp)
+    push_spaced_number(text, avp.code)?;
+    push_type_vendor_values_and_lf(text, avp)
 }
 
-fn push_group_head(text: &mut Vec<u8>, avp: &AvpDef) -> Result<(), NoMemory>
+fn push_group_head_behind_name(text: &mut Vec<u8>, avp: &AvpDef) -> Result<(), NoMemory>
     ensures { OnOk result (text.new.items ≡ text.old.items ++ group_head_text avp.now) }
 {
     push_piece(text, b" > ::= < AVP Header:")?;
-    push_space_and_number(text, avp.code)?;
-    push_space_and_number_if_some(text, avp.vendor)
+    push_spaced_number(text, avp.code)?;
+    push_spaced_number_if_some(text, avp.vendor)
 }
 
 fn push_group_line(text: &mut Vec<u8>, avp: &AvpDef) -> Result<(), NoMemory>
@@ -193,8 +194,8 @@ fn push_group_line(text: &mut Vec<u8>, avp: &AvpDef) -> Result<(), NoMemory>
 {
     push_piece(text, b"< ")?;
     push_piece(text, avp.name.as_slice())?;
-    push_group_head(text, avp)?;
-    push_head_end_and_rule(text, &avp.rule)
+    push_group_head_behind_name(text, avp)?;
+    push_head_end_rule_and_lf(text, &avp.rule)
 }
 
 fn push_avp_line(text: &mut Vec<u8>, avp: &AvpDef) -> Result<(), NoMemory>
@@ -214,13 +215,13 @@ fn push_command_flags(text: &mut Vec<u8>, command: &CommandDef) -> Result<(), No
     push_word_if_set(text, command.err, b", ERR")
 }
 
-fn push_command_head(text: &mut Vec<u8>, command: &CommandDef) -> Result<(), NoMemory>
+fn push_command_head_behind_name(text: &mut Vec<u8>, command: &CommandDef) -> Result<(), NoMemory>
     ensures { OnOk result (text.new.items ≡ text.old.items ++ command_head_text command.now) }
 {
     push_piece(text, b" > ::= < Diameter Header:")?;
-    push_space_and_number(text, command.code)?;
+    push_spaced_number(text, command.code)?;
     push_command_flags(text, command)?;
-    push_space_and_number(text, command.application)
+    push_spaced_number(text, command.application)
 }
 
 fn push_command_line(text: &mut Vec<u8>, command: &CommandDef) -> Result<(), NoMemory>
@@ -228,8 +229,8 @@ fn push_command_line(text: &mut Vec<u8>, command: &CommandDef) -> Result<(), NoM
 {
     push_piece(text, b"< ")?;
     push_piece(text, command.name.as_slice())?;
-    push_command_head(text, command)?;
-    push_head_end_and_rule(text, &command.rule)
+    push_command_head_behind_name(text, command)?;
+    push_head_end_rule_and_lf(text, &command.rule)
 }
 
 /// Puts the line of each AVP behind the text.
@@ -257,7 +258,7 @@ fn push_vendor_line(text: &mut Vec<u8>, vendor: &VendorDef) -> Result<(), NoMemo
 {
     push_piece(text, b"@ vendor ")?;
     push_piece(text, vendor.name.as_slice())?;
-    push_space_and_number(text, vendor.number)?;
+    push_spaced_number(text, vendor.number)?;
     push_piece(text, b"\n")
 }
 

@@ -6,7 +6,7 @@ ghost use Rattle.dm_dict_text.specs.Printed.{printed};
 ghost use Rattle.dm_dict_text.specs.Outcome.{Defines};
 
 use crate::print::push_tables;
-use dm_grammar::words_beyond_digits_are_names;
+use dm_grammar::words_not_all_digits_are_names;
 use dm_tables::Tables;
 use dm_value::NoMemory;
 use std::alloc::Global;
@@ -20,7 +20,7 @@ pub fn print_tables(alloc: Global, tables: &Tables) -> Result<Vec<u8>, NoMemory>
     ensures again { IfOk result (λ text. Defines text.items nothing_defined (defined tables.now)) }
 {
     let mut text = Vec::new(alloc);
-    words_beyond_digits_are_names();
+    words_not_all_digits_are_names();
     push_tables(&mut text, tables)?;
     Ok(text)
 }

@@ -1,4 +1,4 @@
-//! A text read into tables (RFC 6733, 3.2).
+//! A text read into tables, behind copies of the definitions of old ones (RFC 6733, 3.2).
 ghost use Rattle.std.specs.Prelude.{◌≡◌, ◌≤◌, ◌+◌, ◌⊎◌, [], length, map, true, OnOk, IfOk, IfErr};
 ghost use Rattle.std.specs.List.{list_all};
 ghost use Rattle.dm_grammar.specs.Views.{view_item};
@@ -36,8 +36,8 @@ fn avp_and_command_counts(old: &Tables, items: &[Item<'_>]) -> (usize, usize)
     (avps, commands)
 }
 
-/// Adds the definitions of the items to copies of those of the old tables; the names of strays are put into a set
-/// without any.
+/// Adds the definitions of the items to copies of those of the old tables, and then looks for the first name in the
+/// items that nothing defines; the names of strays are put into a set without any.
 fn define_items_and_check_names<'a>(
     alloc: Global,
     tables: &mut Tables,
@@ -83,8 +83,8 @@ fn copy_old_tables_with_guesses(
     ensures guesses { IfOk result (λ guesses. AreGuessed tables.new.avps.items guesses.places.items) }
 {
     tables.reserve(avps, commands)?;
-    tables.add_all_copies(alloc, old)?;
-    let mut guesses = NameGuesses::new(alloc, avps)?;
+    tables.fill_with_copies_of(alloc, old)?;
+    let mut guesses = NameGuesses::empty_for(alloc, avps)?;
     guesses.note_names_of_all(tables.avps.as_slice());
     Ok(guesses)
 }
@@ -126,7 +126,7 @@ fn extended_tables(alloc: Global, old: &Tables, items: &[Item<'_>]) -> Result<Ta
     ensures dictionary { IfOk result IsDictionary }
     ensures fault { IfErr result (StopsAtFirst (all_faults (defined old.now) (map view_item items.now))) }
 {
-    let mut tables = Tables::new(alloc);
+    let mut tables = Tables::empty(alloc);
     let mut strays = IndexSet::new(alloc);
     let done = add_old_and_new_definitions(alloc, &mut tables, &mut strays, old, items);
     drop(strays);

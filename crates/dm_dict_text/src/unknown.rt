@@ -1,4 +1,5 @@
-//! The names of a dictionary text that nothing defines (RFC 6733, 3.2).
+//! The names of a dictionary text that nothing defines, and those of vendors that nothing defines before their item
+//! (RFC 6733, 3.2).
 ghost use Rattle.std.specs.Prelude.{◌≡◌, ◌≤◌, ◌+◌, length, map, take, fold};
 ghost use Rattle.dm_grammar.specs.Views.{view_word, view_reference_option, view_entry, view_item};
 ghost use Rattle.dm_tables.specs.Guesses.{AreGuessed};
@@ -11,7 +12,7 @@ ghost use Rattle.dm_dict_text.specs.Faults.{kind_unknown, unknown, vendors_with,
 
 use crate::DictFault;
 use crate::checks::is_avp_defined;
-use crate::kind::type_named;
+use crate::kind::ungrouped_type_named;
 use dm_grammar::{EntryItem, Item, Token, VendorWord};
 use dm_tables::{NameGuesses, Tables, VendorDef, Vendors};
 use indexmap::IndexSet;
@@ -77,7 +78,7 @@ fn unknown_vendor_fault(
 fn unknown_type_fault(word: Token<'_>) -> Option<DictFault>
     ensures { result ≡ first_dict_fault (kind_unknown (view_word word.entry)) }
 {
-    if type_named(word.text).is_some() {
+    if ungrouped_type_named(word.text).is_some() {
         None
     } else {
         Some(DictFault::UnknownName(word.line))
@@ -119,7 +120,8 @@ fn first_unknown_in_item(
     }
 }
 
-/// How many of the vendors are defined once the item is read, where so many were before it.
+/// How many of the vendors are defined once the item is read, where so many were before it. `vendors` is for the
+/// contract alone.
 fn vendor_count_after_item(vendors: &[VendorDef], before: usize, item: &Item<'_>) -> usize
     requires { before + vendor_count (view_item item.now) ≤ length vendors.now }
     ensures { result ≡ before + vendor_count (view_item item.now) }

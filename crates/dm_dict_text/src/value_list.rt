@@ -9,7 +9,7 @@ ghost use Rattle.dm_dict_text.specs.Meaning.{number};
 ghost use Rattle.dm_dict_text.specs.Faults.{StopsAtFirst, listed_value_faults, with_value, value_list_faults};
 
 use crate::DictFault;
-use crate::number::number_of_word;
+use crate::number::number_of_digit_word;
 use dm_grammar::ValueItem;
 use dm_tables::{EnumValue, NoMemory, Values, is_number_noted, note_number};
 use dm_wire::Octets;
@@ -19,8 +19,8 @@ use std::alloc::Global;
 /// The greatest value that is listed.
 const VALUE_LIMIT: u32 = 2147483647;
 
-/// The number as a signed one.
-fn as_signed_number(number: u32) -> i32
+/// The number of a value, at most 2147483647, as a signed one, which is never negative.
+fn signed_value_number(number: u32) -> i32
     requires { number ≤ 2147483647 }
     ensures { result ≡ pos number }
 {
@@ -57,7 +57,7 @@ impl<'a> Listing<'a> {
     ghost use Rattle.dm_dict_text.specs.Listing.{IsListing};
 
     /// No values, of a list that will have so many. It never answers want of memory.
-    fn new(alloc: Global, count: usize) -> Listing<'a>
+    fn empty_for(alloc: Global, count: usize) -> Listing<'a>
         ensures empty { result.values.items ≡ [] }
         ensures listing { IsListing result }
     {
@@ -123,7 +123,7 @@ impl<'a> Listing<'a> {
         if self.has_name(item.name.text) {
             return Err(DictFault::Duplicate(item.name.line));
         }
-        let number = as_signed_number(number_of_word(item.number, VALUE_LIMIT)?);
+        let number = signed_value_number(number_of_digit_word(item.number, VALUE_LIMIT)?);
         if self.has_number(&number) {
             return Err(DictFault::Duplicate(item.number.line));
         }
@@ -167,7 +167,7 @@ fn values_of_items(alloc: Global, items: &[ValueItem<'_>]) -> Result<Vec<EnumVal
     ensures good { IfOk result (λ _. value_list_faults (map view_value items.now) ≡ []) }
     ensures fault { IfErr result (StopsAtFirst (value_list_faults (map view_value items.now))) }
 {
-    let mut listing = Listing::new(alloc, items.len());
+    let mut listing = Listing::empty_for(alloc, items.len());
     let done = listing.add_all(alloc, items);
     let Listing { values, .. } = listing;
     done.and(Ok(values))

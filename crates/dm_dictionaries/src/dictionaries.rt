@@ -67,7 +67,7 @@ impl Dictionaries {
     }
 
     /// The dictionary of the application: its own, or the one for all others. It never answers want of memory.
-    pub fn of(&self, application: u32) -> &Dictionary
+    pub fn own_or_others(&self, application: u32) -> &Dictionary
         ensures { result.now ≡ definitions_of self.now application }
     {
         match self.own.get(&application) {
@@ -85,7 +85,7 @@ impl Dictionaries {
         if is_base_command(header.command) {
             &self.base
         } else {
-            self.of(header.application)
+            self.own_or_others(header.application)
         }
     }
 

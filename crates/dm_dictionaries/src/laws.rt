@@ -9,7 +9,7 @@ pub fn base_commands_go_by_base_dictionary()
 
 /// Where no application has a dictionary of its own, the one for all others judges every message that is no base
 /// command, and every message at all where it is the base dictionary. It stands for users.
-pub fn lone_dictionary_judges_all()
+pub fn lone_dictionary_judges_all_but_base()
     ensures { OneAloneJudgesAll }
 {}
 

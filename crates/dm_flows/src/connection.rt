@@ -1,14 +1,14 @@
 //! A connection: Diameter messages out of the segments of both ends.
 ghost use Rattle.std.specs.Prelude.{◌≡◌, OnOk, OnErr, IfOk, IfSome, IfNone};
 ghost use Rattle.dm_flows.specs.Connections.{new_connection, passed_in, held_in, pending_in};
-ghost use Rattle.dm_flows.specs.Connections.{TakesSegment, LeavesConnection};
+ghost use Rattle.dm_flows.specs.Connections.{TakesSegment, LeavesConnection, HearsSegment, LeavesSegment};
 ghost use Rattle.dm_flows.specs.Flows.{HandsMessage, HandsNoMessage};
 ghost use Rattle.dm_flows.specs.Tcps.{segment_seen};
 
 use crate::address::{Endpoint, is_same_end};
-use crate::control_bits::take_segment_in_direction;
+use crate::control_bits::apply_control_bits;
 use crate::flow::Flow;
-use crate::segment::Segment;
+use crate::segment::{Segment, first_octet_number};
 use std::alloc::{AllocError, Global};
 use std::marker::Model;
 
@@ -27,6 +27,21 @@ impl Model for Connection {
     ghost Value = { ConnectionState };
 
     ghost view = { λ c. record { first = c.first; second = c.second; forth = c.forth; back = c.back } };
+}
+
+/// Takes a segment of the direction `own`: its control bits, and then its octets.
+fn take_segment_in_direction(
+    own: &mut Flow,
+    other: &mut Flow,
+    segment: Segment<'_>,
+) -> Result<(), AllocError>
+    ensures heard { OnOk result (HearsSegment (record { own = own.old; other = other.old })
+        (segment_seen segment.entry) (record { own = own.new; other = other.new })) }
+    ensures left { OnErr result (LeavesSegment (record { own = own.old; other = other.old })
+        (segment_seen segment.entry) (record { own = own.new; other = other.new })) }
+{
+    apply_control_bits(own, other, segment);
+    own.take_payload_or_pass(first_octet_number(segment), segment.payload)
 }
 
 impl Connection {
@@ -61,15 +76,15 @@ impl Connection {
 
     /// How many octets came in both directions that were neither handed out nor passed over, up to 2^64 - 1. It takes a
     /// step for each octet of both windows, and never answers want of memory.
-    pub fn octets_pending_both_ways(&self) -> u64
+    pub fn octets_held_that_came_both_ways(&self) -> u64
         ensures { result ≡ pending_in self.now }
     {
         self.forth
-            .octets_pending()
-            .saturating_add(self.back.octets_pending())
+            .octets_held_that_came()
+            .saturating_add(self.back.octets_held_that_came())
     }
 
-    /// Takes a segment that came from the first end, or else from the second one.
+    /// Takes a segment that came from the first end; one of any other source is taken as one from the second.
     ///
     /// A SYN begins a connection: where it is that of a new one both directions begin anew, and what wasn't handed out
     /// is passed over. A FIN ends the direction behind its octets, a RST both. Where memory is wanted the control bits

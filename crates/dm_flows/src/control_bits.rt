@@ -1,17 +1,15 @@
 //! What the control bits of a segment do to both directions of its connection (RFC 9293, 3.5 and 3.6).
-ghost use Rattle.std.specs.Prelude.{◌≡◌, OnOk, OnErr};
-ghost use Rattle.dm_flows.specs.Connections.{is_same_syn, is_answering_syn, after_syn};
-ghost use Rattle.dm_flows.specs.Connections.{controlled, first_number};
-ghost use Rattle.dm_flows.specs.Connections.{HearsSegment, LeavesSegment};
+ghost use Rattle.std.specs.Prelude.{◌≡◌};
+ghost use Rattle.dm_flows.specs.Connections.{is_same_syn, is_answering_syn, after_syn, controlled};
 ghost use Rattle.dm_flows.specs.Tcps.{segment_seen};
 
 use crate::closing::is_open;
-use crate::flow::{Flow, sequence_number_behind};
-use crate::segment::Segment;
-use std::alloc::AllocError;
+use crate::flow::Flow;
+use crate::segment::{Segment, first_octet_number};
+use crate::window::sequence_number_behind;
 
 /// Whether a SYN with this number is that of the connection, sent again.
-fn repeats_syn(own: &Flow, number: u32) -> bool
+fn is_repeated_syn(own: &Flow, number: u32) -> bool
     ensures { result ≡ is_same_syn own.now number }
 {
     match own.syn_number() {
@@ -34,7 +32,7 @@ fn take_syn(own: &mut Flow, other: &mut Flow, number: u32)
     ensures { record { own = own.new; other = other.new }
         ≡ after_syn number (record { own = own.old; other = other.old }) }
 {
-    if repeats_syn(own, number) {
+    if is_repeated_syn(own, number) {
         return;
     }
     if !answers_syn(own, other) {
@@ -43,20 +41,9 @@ fn take_syn(own: &mut Flow, other: &mut Flow, number: u32)
     own.begin_at_syn(number);
 }
 
-/// The sequence number of a segment's first octet: that behind its SYN, where it has one (RFC 9293, 3.4).
-fn first_octet_number(segment: Segment<'_>) -> u32
-    ensures { result ≡ first_number (segment_seen segment.entry) }
-{
-    if segment.syn {
-        segment.sequence.wrapping_add(1)
-    } else {
-        segment.sequence
-    }
-}
-
 /// Does what a segment's control bits say, before its octets are taken: a RST ends both directions; else a SYN may
 /// begin them, and a FIN ends the sender's.
-fn apply_control_bits(own: &mut Flow, other: &mut Flow, segment: Segment<'_>)
+pub(crate) fn apply_control_bits(own: &mut Flow, other: &mut Flow, segment: Segment<'_>)
     ensures { record { own = own.new; other = other.new }
         ≡ controlled (segment_seen segment.entry) (record { own = own.old; other = other.old }) }
 {
@@ -70,21 +57,6 @@ fn apply_control_bits(own: &mut Flow, other: &mut Flow, segment: Segment<'_>)
     }
     if segment.fin {
         let last = sequence_number_behind(first_octet_number(segment), segment.payload.len());
-        own.end_at_fin(last);
+        own.end_at_fin_unless_ended(last);
     }
-}
-
-/// Takes a segment of the direction `own`: its control bits, and then its octets.
-pub(crate) fn take_segment_in_direction(
-    own: &mut Flow,
-    other: &mut Flow,
-    segment: Segment<'_>,
-) -> Result<(), AllocError>
-    ensures heard { OnOk result (HearsSegment (record { own = own.old; other = other.old })
-        (segment_seen segment.entry) (record { own = own.new; other = other.new })) }
-    ensures left { OnErr result (LeavesSegment (record { own = own.old; other = other.old })
-        (segment_seen segment.entry) (record { own = own.new; other = other.new })) }
-{
-    apply_control_bits(own, other, segment);
-    own.take_octets(first_octet_number(segment), segment.payload)
 }

@@ -61,7 +61,7 @@ fn is_fragment(next: u8, octets: &[u8]) -> bool
 
 /// The protocol and the octets behind extension headers, the first of which has the number `first`; an Err where they
 /// end in the middle of one, or one is a fragment's.
-pub(crate) fn upper_behind_extensions(first: u8, octets: &[u8]) -> Result<Upper<'_>, Astray>
+pub(crate) fn upper_layer_behind_extensions(first: u8, octets: &[u8]) -> Result<Upper<'_>, Astray>
     ensures upper { IfOk result (λ upper. (n : ℕ) × LeadsTo n first octets.now upper.protocol upper.payload.now) }
     ensures astray { IfErr result (GoesAstray first octets.now) }
 {

@@ -1,4 +1,4 @@
-//! One direction of a connection: Diameter messages out of its segments.
+//! One direction of a connection: Diameter messages out of its segments, by their sequence numbers.
 ghost use Rattle.std.specs.Prelude.{◌≡◌, ◌≤◌, ◌⊎◌, ◌++◌, [], None, true, false, Ok, length};
 ghost use Rattle.std.specs.Prelude.{OnOk, OnErr, IfOk, IfSome, IfNone};
 ghost use Rattle.dm_flows.specs.Flows.{more_passed, known_waiting, stream_left, begun_by_syn, begun_by_header};
@@ -6,21 +6,18 @@ ghost use Rattle.dm_flows.specs.Flows.{known_span, held_octets, pending_octets};
 ghost use Rattle.dm_flows.specs.Flows.{new_flow, begun_unseen, closing_by_fin, octets_within, IsAstrayAt, FlowTakes};
 ghost use Rattle.dm_flows.specs.Flows.{BeginsAnew, TakesWithin, TakesPayload, LeavesPayload};
 ghost use Rattle.dm_flows.specs.Flows.{HandsMessage, HandsNoMessage};
-ghost use Rattle.dm_flows.specs.Windows.{place_ahead, sequence_behind};
+ghost use Rattle.dm_flows.specs.Windows.{place_ahead};
 
 use crate::closing::Closing;
-use crate::header::begins_with_header;
+use crate::header::begins_with_whole_header;
 use crate::octet_slices::first_octets;
-use crate::window::{Window, WindowFault};
+use crate::window::{Window, WindowFault, sequence_number_behind};
 use dm_framer::Framer;
 use std::alloc::{AllocError, Global};
 use std::marker::Model;
 
 /// Half of the sequence numbers.
 const HALF: u32 = 2_147_483_648;
-
-/// How many sequence numbers there are.
-const ALL_NUMBERS: usize = 4_294_967_296;
 
 /// One direction of a connection: segments go in, Diameter messages come out.
 ///
@@ -85,13 +82,6 @@ fn octets_before_end(closing: Closing, number: u32, octets: &[u8]) -> &[u8]
         Closing::Fin(last) => first_octets(octets, count_octets_up_to(last, number)),
         Closing::Reset => &octets[..0],
     }
-}
-
-/// The sequence number behind so many octets, of which the first has this number.
-pub(crate) fn sequence_number_behind(number: u32, octets: usize) -> u32
-    ensures { result ≡ sequence_behind number octets }
-{
-    number.wrapping_add((octets % ALL_NUMBERS) as u32)
 }
 
 /// How many octets wait behind one that is missing; none where the place in the stream isn't known.
@@ -169,7 +159,7 @@ impl Flow {
 
     /// How many octets came that were neither handed out nor passed over, up to 2^64 - 1: those that wait, and those in
     /// order. It takes a step for each octet of the window, and never answers want of memory.
-    pub fn octets_pending(&self) -> u64
+    pub fn octets_held_that_came(&self) -> u64
         ensures { result ≡ pending_octets self.now }
     {
         let pending = capped_octet_sum(octets_waiting_in(&self.window) as u64, self.framer.len());
@@ -227,7 +217,7 @@ impl Flow {
 
     /// A FIN has this number: octets are taken up to it, unless something ended the direction before. It never answers
     /// want of memory.
-    pub fn end_at_fin(&mut self, number: u32)
+    pub fn end_at_fin_unless_ended(&mut self, number: u32)
         ensures { self.new ≡ record self.old { closing = closing_by_fin self.old.closing number } }
     {
         if let Closing::Open = self.closing {
@@ -248,7 +238,7 @@ impl Flow {
     /// known, or they are too far ahead or behind, the stream is left and begins anew with them, or they are passed
     /// over too.
     /// Where memory is wanted nothing changed, or the octets were taken, and those in order kept up to some.
-    pub fn take_octets(&mut self, number: u32, octets: &[u8]) -> Result<(), AllocError>
+    pub fn take_payload_or_pass(&mut self, number: u32, octets: &[u8]) -> Result<(), AllocError>
         ensures taken { OnOk result (TakesPayload self.old number octets.now self.new) }
         ensures left { OnErr result (LeavesPayload self.old number octets.now self.new) }
     {
@@ -266,7 +256,7 @@ impl Flow {
     {
         match self.continue_stream(number, octets) {
             Ok(true) => Ok(()),
-            Ok(false) => self.begin_stream_or_pass(number, octets),
+            Ok(false) => self.restart_or_leave_stream(number, octets),
             Err(error) => Err(error),
         }
     }
@@ -293,11 +283,11 @@ impl Flow {
     }
 
     /// Leaves the stream, and begins one with the octets where a header may stand in front; else they are passed over.
-    fn begin_stream_or_pass(&mut self, number: u32, octets: &[u8]) -> Result<(), AllocError>
+    fn restart_or_leave_stream(&mut self, number: u32, octets: &[u8]) -> Result<(), AllocError>
         ensures begun { OnOk result (BeginsAnew self.old number octets.now self.new) }
         ensures unchanged { OnErr result (self.new ≡ self.old) }
     {
-        if !begins_with_header(octets) {
+        if !begins_with_whole_header(octets) {
             self.leave_stream();
             self.passed = capped_octet_sum(self.passed, octets.len());
             return Ok(());

@@ -10,7 +10,7 @@ const HEADER_LEN: usize = 20;
 /// The Command Code of the Capabilities-Exchange (RFC 6733, 5.3).
 const CAPABILITIES_EXCHANGE: u32 = 257;
 
-/// Whether a header may stand at the front of the octets. It takes no memory.
+/// Whether a whole header may stand at the front of the octets: not where they are fewer than 20. It takes no memory.
 ///
 /// ```text
 ///  0                   1                   2                   3
@@ -21,7 +21,7 @@ const CAPABILITIES_EXCHANGE: u32 = 257;
 /// |                      Hop-by-Hop Identifier                    |
 /// |                      End-to-End Identifier                    |
 /// ```
-pub fn begins_with_header(octets: &[u8]) -> bool
+pub fn begins_with_whole_header(octets: &[u8]) -> bool
     ensures { IsTrue result ↔ BeginsWithHeader octets.now }
 {
     if octets.len() < HEADER_LEN || octets[0] != 1 || octets[4] % 16 != 0 {
@@ -35,7 +35,7 @@ pub fn begins_with_header(octets: &[u8]) -> bool
 pub fn begins_with_exchange_request(octets: &[u8]) -> bool
     ensures { IsTrue result ↔ BeginsWithExchange octets.now }
 {
-    if !begins_with_header(octets) || octets.len() < HEADER_LEN {
+    if !begins_with_whole_header(octets) || octets.len() < HEADER_LEN {
         return false;
     }
     octets[4] / 128 == 1

@@ -5,7 +5,7 @@ ghost use Rattle.dm_flows.specs.Ips.{ipv6_carried};
 
 use crate::address::Address;
 use crate::carried::Carried;
-use crate::extensions::{Astray, Upper, upper_behind_extensions};
+use crate::extensions::{Astray, Upper, upper_layer_behind_extensions};
 use crate::octet_slices::first_octets;
 use crate::passed::Passed;
 use byteorder::{BigEndian, ByteOrder};
@@ -33,8 +33,8 @@ pub(crate) fn carried_by_ipv6(octets: &[u8]) -> Result<Carried<'_>, Passed>
     if octets[0] / 16 != 6 {
         return Err(Passed::Bad);
     }
-    match upper_behind_extensions(octets[6], captured_payload(octets)) {
-        Ok(upper) => Ok(carried_with_upper(octets, upper)),
+    match upper_layer_behind_extensions(octets[6], captured_payload(octets)) {
+        Ok(upper) => Ok(carried_with_upper_layer(octets, upper)),
         Err(Astray::Fragmented) => Err(Passed::Fragment),
         Err(Astray::Ends) => Err(cut_or_bad(octets)),
     }
@@ -77,7 +77,7 @@ fn cut_or_bad(octets: &[u8]) -> Passed
 }
 
 /// What a packet carries whose extension headers lead to this protocol.
-fn carried_with_upper<'a>(octets: &[u8], upper: Upper<'a>) -> Carried<'a>
+fn carried_with_upper_layer<'a>(octets: &[u8], upper: Upper<'a>) -> Carried<'a>
     requires { 40 ≤ length octets.now }
     ensures { carried_of result ≡ ipv6_carried octets.now upper.entry.protocol upper.entry.payload.now }
 {

@@ -7,7 +7,7 @@ ghost use Rattle.dm_flows.specs.Accounts.{EachOctetIsAccounted};
 ghost use Rattle.dm_flows.specs.FlowOrder.{EachStreamIsInOrder, EachStreamIsWhole};
 
 /// A packet holds one segment at most, or there is one reason at most why it holds none, never both.
-pub fn packets_hold_one_segment_at_most()
+pub fn packets_hold_one_segment_or_reason()
     ensures segment { OneSegment }
     ensures either { SegmentOrReason }
     ensures reason { OneReason }

@@ -30,7 +30,7 @@ pub use address::{Address, Endpoint};
 pub use closing::Closing;
 pub use connection::Connection;
 pub use flow::Flow;
-pub use header::{begins_with_exchange_request, begins_with_header};
+pub use header::{begins_with_exchange_request, begins_with_whole_header};
 pub use passed::Passed;
 pub use sctp::{SctpPacket, sctp_packet_of};
 pub use sctp_chunks::{DataChunk, DataChunks};

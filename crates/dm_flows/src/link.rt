@@ -4,8 +4,8 @@ ghost use Rattle.dm_flows.specs.Links.{link_kind, HoldsIp, HasLinkFault, IsTyped
 ghost use Rattle.dm_flows.specs.Links.{IsBehind, IsNoneBehind};
 
 use crate::network::{
-    IpOctets, Network, network_by_big_endian_family, network_by_ethertype, network_by_host_family,
-    network_by_version,
+    IpOctets, Network, network_by_big_endian_family, network_by_ethertype, network_by_first_octet,
+    network_by_host_family,
 };
 use crate::passed::Passed;
 use crate::tags::ethertype_behind_tags;
@@ -131,7 +131,7 @@ fn ip_of_raw_link(octets: &[u8]) -> Result<IpOctets<'_>, Passed>
     if octets.is_empty() {
         return Err(Passed::Cut);
     }
-    match network_by_version(octets[0]) {
+    match network_by_first_octet(octets[0]) {
         Some(network) => Ok(IpOctets { network, octets }),
         None => Err(Passed::NotIp),
     }

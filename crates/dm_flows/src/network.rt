@@ -61,7 +61,7 @@ pub(crate) fn network_by_host_family(octets: &[u8]) -> Option<Network>
 }
 
 /// The version of IP that a packet's first octet tells; None where it is neither 4 nor 6.
-pub(crate) fn network_by_version(octet: u8) -> Option<Network>
+pub(crate) fn network_by_first_octet(octet: u8) -> Option<Network>
     ensures { result ≡ network_of_version (octet / 16) }
 {
     match octet / 16 {

@@ -3,7 +3,7 @@ ghost use Rattle.dm_flows.specs.SctpLaws.{OneSctp, SctpOrReason, OneSctpReason};
 ghost use Rattle.dm_flows.specs.SctpLaws.{EachHasDataList, OneDataList};
 
 /// A packet holds one SCTP packet at most, or there is one reason at most why it holds none, never both.
-pub fn packets_hold_one_sctp_at_most()
+pub fn packets_hold_one_sctp_or_reason()
     ensures packet { OneSctp }
     ensures either { SctpOrReason }
     ensures reason { OneSctpReason }

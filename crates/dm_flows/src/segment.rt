@@ -1,5 +1,6 @@
 //! TCP segments (RFC 9293, 3.1).
 ghost use Rattle.std.specs.Prelude.{◌≡◌, ◌<◌, ◌≤◌, length, IfOk, IfErr};
+ghost use Rattle.dm_flows.specs.Connections.{first_number};
 ghost use Rattle.dm_flows.specs.Ips.{carried_of};
 ghost use Rattle.dm_flows.specs.Tcps.{segment_seen, tcp_header, has_control, CarriesSegment, CarriesNone};
 ghost use Rattle.dm_flows.specs.Tcps.{IsSegment, IsNoSegment};
@@ -94,6 +95,17 @@ fn carried_segment(carried: Carried<'_>) -> Result<Segment<'_>, Passed>
         rst: is_control_bit_set(octets, 4),
         payload: &octets[header..],
     })
+}
+
+/// The sequence number of a segment's first octet: that behind its SYN, where it has one (RFC 9293, 3.4).
+pub(crate) fn first_octet_number(segment: Segment<'_>) -> u32
+    ensures { result ≡ first_number (segment_seen segment.entry) }
+{
+    if segment.syn {
+        segment.sequence.wrapping_add(1)
+    } else {
+        segment.sequence
+    }
 }
 
 /// The TCP segment in what was captured on a link of this type, or what it is instead. It takes no memory.

@@ -27,7 +27,7 @@ pub(crate) fn grow_slots(slots: &mut VecDeque<Option<u8>>, size: usize) -> Resul
 }
 
 /// Fills a slot, if it is empty.
-fn fill_empty_slot(slots: &mut VecDeque<Option<u8>>, at: usize, octet: u8)
+fn fill_slot_if_empty(slots: &mut VecDeque<Option<u8>>, at: usize, octet: u8)
     requires { at < length slots.old.items }
     ensures { slots.new.items
         ≡ slice_set slots.old.items at (first_known (slot slots.old.items at) (Some octet)) }
@@ -43,6 +43,6 @@ pub(crate) fn fill_empty_slots(slots: &mut VecDeque<Option<u8>>, at: usize, octe
     ensures { IsFilled slots.old.items at octets.now slots.new.items }
 {
     'octets: for index in 0..octets.len() {
-        fill_empty_slot(slots, at + index, octets[index]);
+        fill_slot_if_empty(slots, at + index, octets[index]);
     }
 }

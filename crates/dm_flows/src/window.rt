@@ -2,6 +2,7 @@
 ghost use Rattle.std.specs.Prelude.{◌≡◌, ◌≤◌, ◌++◌, [], length, None, IfErr, OnOk, OnErr};
 ghost use Rattle.dm_flows.specs.Windows.{slot, known_octets, place_ahead, passed_of, lies_far_behind, arrival_from};
 ghost use Rattle.dm_flows.specs.Windows.{IsTooFar, TakesOctets, HandsTo, HandsStraight, TakesThrough, LeavesThrough};
+ghost use Rattle.dm_flows.specs.Windows.{sequence_behind};
 
 use crate::octet_slices::without_first_octets;
 use crate::slots::{count_filled_slots, fill_empty_slots, grow_slots};
@@ -15,6 +16,9 @@ pub const WINDOW: usize = 1_048_576;
 
 /// Half of the sequence numbers.
 const HALF: u32 = 2_147_483_648;
+
+/// How many sequence numbers there are.
+const ALL_NUMBERS: usize = 4_294_967_296;
 
 /// Why octets aren't taken.
 #[derive(Clone, Copy, Debug, PartialEq, Eq, Error)]
@@ -71,6 +75,13 @@ fn place_of_sequence(next: u32, sequence: u32) -> Place
             at: 0,
         }
     }
+}
+
+/// The sequence number behind so many octets, of which the first has this number.
+pub(crate) fn sequence_number_behind(number: u32, octets: usize) -> u32
+    ensures { result ≡ sequence_behind number octets }
+{
+    number.wrapping_add((octets % ALL_NUMBERS) as u32)
 }
 
 impl Window {
@@ -133,7 +144,7 @@ impl Window {
     }
 
     /// The next octet, if it came.
-    fn next_octet(&self) -> Option<u8>
+    fn front_octet(&self) -> Option<u8>
         ensures { result ≡ slot self.now.held 0 }
     {
         match self.slots.front() {
@@ -148,7 +159,7 @@ impl Window {
         ensures handed { HandsTo self.old output.old.items self.new output.new.items }
         ensures all { OnOk result (slot self.new.held 0 ≡ None) }
     {
-        'octets: while let Some(octet) = self.next_octet() {
+        'octets: while let Some(octet) = self.front_octet() {
             output.push(octet)?;
             let _ = self.slots.pop_front();
             self.next = self.next.wrapping_add(1);

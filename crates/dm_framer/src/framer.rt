@@ -8,7 +8,7 @@ ghost use Rattle.dm_framer.specs.Stream.{Stream, new_stream, IsFrontFrame};
 
 use crate::FrameFault;
 use crate::buffer::compact_if_cheap;
-use crate::front::{HEADER_FRONT, front_len, len_wanted_by_front};
+use crate::front::{HEADER_FRONT, front_len, len_until_front_is_whole};
 use std::alloc::Global;
 use std::marker::Model;
 
@@ -92,7 +92,7 @@ impl Framer {
         let header = HEADER_FRONT.saturating_sub(self.len()).min(piece.len());
         let (front, behind) = piece.split_at(header);
         self.feed(front)?;
-        let more = len_wanted_by_front(&self.buffer[self.taken..], self.max, behind.len());
+        let more = len_until_front_is_whole(&self.buffer[self.taken..], self.max, behind.len());
         match self.feed(&behind[..more]) {
             Ok(()) => Ok(header + more),
             Err(fault) => {

@@ -59,7 +59,7 @@ pub fn front_len(octets: &[u8], max: u32) -> Result<Option<usize>, FrameFault>
 
 /// The Message Length at the front, where it is told, and is one that a message may have. It never answers want of
 /// memory.
-fn announced_front_length(octets: &[u8], max: u32) -> Option<usize>
+fn announced_good_length(octets: &[u8], max: u32) -> Option<usize>
     ensures told { IfSome result (HasLength max octets.now) }
     ensures none { IfNone result ((length octets.now < 4) ⊎ ((fault : FrameFault) × HasFault max octets.now fault)) }
 {
@@ -74,13 +74,13 @@ fn announced_front_length(octets: &[u8], max: u32) -> Option<usize>
 
 /// How many of so many octets that come the message at the front wants: all of them where it isn't whole with fewer.
 /// It never answers want of memory.
-pub(crate) fn len_wanted_by_front(octets: &[u8], max: u32, coming: usize) -> usize
+pub(crate) fn len_until_front_is_whole(octets: &[u8], max: u32, coming: usize) -> usize
     ensures within { result ≤ coming }
     ensures front { result < coming → (t : List ℕ) → length t ≡ result → BeginsWithFrame max (octets.now ++ t) }
     ensures least { (t : List ℕ) → 4 ≤ length octets.now → length t < result
         → BeginsWithNoFrame max (octets.now ++ t) }
 {
-    match announced_front_length(octets, max) {
+    match announced_good_length(octets, max) {
         Some(size) => size.saturating_sub(octets.len()).min(coming),
         None => coming,
     }

@@ -20,8 +20,8 @@ use crate::value::read_value_list;
 use crate::vendor::read_vendor_word;
 use std::alloc::Global;
 
-/// Whether a list may stand behind the type.
-fn is_listable_type(kind: Token<'_>, how: Reading) -> bool
+/// Whether a list of values may stand behind the type: it is Enumerated, in a text of the second version.
+fn is_enumerated_in_second_version(kind: Token<'_>, how: Reading) -> bool
     ensures { result ≡ may_list how.version (view_word kind.entry) }
 {
     match how.version {
@@ -30,8 +30,8 @@ fn is_listable_type(kind: Token<'_>, how: Reading) -> bool
     }
 }
 
-/// A type, and whether a list may stand behind it.
-fn read_type_and_if_listable<'t, 'a>(
+/// A type, and whether a list of values may stand behind it.
+fn read_type_and_if_it_may_list<'t, 'a>(
     tokens: &'t [Token<'a>],
     how: Reading,
 ) -> Result<((Token<'a>, bool), &'t [Token<'a>]), usize>
@@ -42,7 +42,7 @@ fn read_type_and_if_listable<'t, 'a>(
     ensures shorter { IfOk result (λ x. length x.1.now < length tokens.now) }
 {
     let (kind, rest) = expect_token(tokens, how, Terminal::AnyName)?;
-    Ok(((kind, is_listable_type(kind, how)), rest))
+    Ok(((kind, is_enumerated_in_second_version(kind, how)), rest))
 }
 
 /// `{` before a list, where one may stand.
@@ -71,7 +71,7 @@ struct TypePart<'a> {
 }
 
 /// type [vend] ["{"].
-fn read_type_part<'t, 'a>(
+fn read_type_vendor_and_brace<'t, 'a>(
     tokens: &'t [Token<'a>],
     how: Reading,
 ) -> Result<(TypePart<'a>, &'t [Token<'a>]), usize>
@@ -82,14 +82,14 @@ fn read_type_part<'t, 'a>(
         (λ line. collect how AvpCode (view_words tokens.now) ≡ Err line) }
     ensures shorter { IfOk result (λ x. length x.1.now < length tokens.now) }
 {
-    let ((kind, may), rest) = read_type_and_if_listable(tokens, how)?;
+    let ((kind, may), rest) = read_type_and_if_it_may_list(tokens, how)?;
     let (vendor, rest) = read_vendor_word(rest, how)?;
     let (list, rest) = read_list_brace(rest, how, may);
     Ok((TypePart { kind, vendor, list }, rest))
 }
 
 /// number type [vend] ["{"].
-fn read_code_and_type_part<'t, 'a>(
+fn read_code_type_vendor_and_brace<'t, 'a>(
     tokens: &'t [Token<'a>],
     how: Reading,
 ) -> Result<((Token<'a>, TypePart<'a>), &'t [Token<'a>]), usize>
@@ -102,12 +102,12 @@ fn read_code_and_type_part<'t, 'a>(
     ensures shorter { IfOk result (λ x. length x.1.now < length tokens.now) }
 {
     let (code, rest) = expect_token(tokens, how, Terminal::One(Symbol::Number))?;
-    let (typed, rest) = read_type_part(rest, how)?;
+    let (typed, rest) = read_type_vendor_and_brace(rest, how)?;
     Ok(((code, typed), rest))
 }
 
 /// name number type [vend] ["{"].
-fn read_avp_front<'t, 'a>(
+fn read_avp_up_to_values<'t, 'a>(
     tokens: &'t [Token<'a>],
     how: Reading,
 ) -> Result<((Token<'a>, Token<'a>, TypePart<'a>), &'t [Token<'a>]), usize>
@@ -121,12 +121,12 @@ fn read_avp_front<'t, 'a>(
     ensures shorter { IfOk result (λ x. length x.1.now < length tokens.now) }
 {
     let (name, rest) = expect_token(tokens, how, Terminal::AnyName)?;
-    let ((code, typed), rest) = read_code_and_type_part(rest, how)?;
+    let ((code, typed), rest) = read_code_type_vendor_and_brace(rest, how)?;
     Ok(((name, code, typed), rest))
 }
 
 /// What follows `@`: name number type [vend], and a list of values where one is written.
-pub(crate) fn read_avp_item<'t, 'a>(
+pub(crate) fn read_avp_item_from_name<'t, 'a>(
     alloc: Global,
     tokens: &'t [Token<'a>],
     how: Reading,
@@ -138,7 +138,7 @@ pub(crate) fn read_avp_item<'t, 'a>(
         (λ fault. IfSyntax fault (λ line. collect how AtSign (view_words tokens.now) ≡ Err line)) }
     ensures shorter { IfOk result (λ x. length x.1.now < length tokens.now) }
 {
-    match read_avp_front(tokens, how) {
+    match read_avp_up_to_values(tokens, how) {
         Ok(((name, code, typed), rest)) => {
             let (values, rest) = read_value_list(alloc, rest, how, typed.list)?;
             let item = AvpItem {

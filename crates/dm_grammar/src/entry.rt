@@ -1,4 +1,4 @@
-//! The entries of a rule.
+//! The entries of a rule, each in the brackets of its form.
 
 ghost use Rattle.std.specs.Prelude.{◌≡◌, ◌<◌, true, length, MatchResult, IfOk, Err, None};
 ghost use Rattle.dm_grammar.specs.Places.GrammarPlace.{High, Low, InRule};
@@ -66,7 +66,7 @@ fn read_bracketed_name<'t, 'a>(
 }
 
 /// What follows the first number of an entry, or its place: `*` [number], and a name in brackets.
-fn read_starred_entry<'t, 'a>(
+fn read_entry_from_star<'t, 'a>(
     low: Option<Token<'a>>,
     tokens: &'t [Token<'a>],
     how: Reading,
@@ -85,7 +85,7 @@ fn read_starred_entry<'t, 'a>(
 }
 
 /// Whether the tokens begin with an entry, and not with an item.
-pub(crate) fn begins_entry(tokens: &[Token<'_>]) -> bool
+pub(crate) fn begins_entry_not_title(tokens: &[Token<'_>]) -> bool
     ensures { result ≡ begins_entry (view_words tokens.now) }
 {
     begins_with_terminal(tokens, Terminal::One(Symbol::Number))
@@ -110,10 +110,10 @@ pub(crate) fn read_entry<'t, 'a>(
 {
     let (low, rest) = take_token_if(tokens, Terminal::One(Symbol::Number));
     match low {
-        Some(_) => read_starred_entry(low, rest, how),
+        Some(_) => read_entry_from_star(low, rest, how),
         None => {
             if begins_with_terminal(tokens, Terminal::One(Symbol::Star)) {
-                read_starred_entry(None, tokens, how)
+                read_entry_from_star(None, tokens, how)
             } else {
                 read_bracketed_name(tokens, how)
             }

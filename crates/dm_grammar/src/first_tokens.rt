@@ -1,4 +1,5 @@
-//! The first tokens of the rest of a text, and whether they are the terminals that are wanted.
+//! The first tokens of the rest of a text: taken where they are the terminals that are wanted, else the line of the
+//! fault.
 
 ghost use Rattle.std.specs.Prelude.{◌≡◌, ◌<◌, ◌≤◌, ◌∷◌, false, true, drop};
 ghost use Rattle.std.specs.Prelude.{length, MatchResult, MatchOption, IfOk, Err};

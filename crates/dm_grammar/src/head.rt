@@ -45,8 +45,8 @@ fn read_comma_and_flag<'t, 'a>(tokens: &'t [Token<'a>], symbol: Symbol) -> (bool
     }
 }
 
-/// The end of a head: [[","] number] ">".
-fn read_head_end<'t, 'a>(
+/// The second number and the end of a head: [[","] number] ">".
+fn read_number_and_head_end<'t, 'a>(
     tokens: &'t [Token<'a>],
     how: Reading,
 ) -> Result<(Option<Token<'a>>, &'t [Token<'a>]), usize>
@@ -75,8 +75,8 @@ fn read_head_end<'t, 'a>(
     }
 }
 
-/// The rest of a command's head: ":" number ["," "REQ"] ["," "PXY"] ["," "ERR"] [[","] number] ">".
-fn read_command_head<'t, 'a>(
+/// A command's head from its colon on: ":" number ["," "REQ"] ["," "PXY"] ["," "ERR"] [[","] number] ">".
+fn read_command_head_from_colon<'t, 'a>(
     tokens: &'t [Token<'a>],
     how: Reading,
 ) -> Result<(Head<'a>, &'t [Token<'a>]), usize>
@@ -95,7 +95,7 @@ fn read_command_head<'t, 'a>(
     let (request, rest) = read_comma_and_flag(rest, Symbol::Req);
     let (proxiable, rest) = read_comma_and_flag(rest, Symbol::Pxy);
     let (error, rest) = read_comma_and_flag(rest, Symbol::Err);
-    let (second, rest) = read_head_end(rest, how)?;
+    let (second, rest) = read_number_and_head_end(rest, how)?;
     let head = Head {
         command: true,
         code: words.1,
@@ -109,7 +109,7 @@ fn read_command_head<'t, 'a>(
 }
 
 /// The end of a group's head, with the name or the number of its vendor: [[","] number | ":" name] ">".
-fn read_group_head_end<'t, 'a>(
+fn read_vendor_and_head_end<'t, 'a>(
     tokens: &'t [Token<'a>],
     how: Reading,
 ) -> Result<((Option<Token<'a>>, Option<Token<'a>>), &'t [Token<'a>]), usize>
@@ -129,13 +129,13 @@ fn read_group_head_end<'t, 'a>(
         )?;
         Ok(((Some(words.0), None), rest))
     } else {
-        let (number, rest) = read_head_end(tokens, how)?;
+        let (number, rest) = read_number_and_head_end(tokens, how)?;
         Ok(((None, number), rest))
     }
 }
 
-/// The rest of a group's head: ":" number [[","] number | ":" name] ">".
-fn read_group_head<'t, 'a>(
+/// A group's head from its colon on: ":" number [[","] number | ":" name] ">".
+fn read_group_head_from_colon<'t, 'a>(
     tokens: &'t [Token<'a>],
     how: Reading,
 ) -> Result<(Head<'a>, &'t [Token<'a>]), usize>
@@ -151,7 +151,7 @@ fn read_group_head<'t, 'a>(
         Terminal::One(Symbol::Colon),
         Terminal::One(Symbol::Number),
     )?;
-    let ((named, second), rest) = read_group_head_end(rest, how)?;
+    let ((named, second), rest) = read_vendor_and_head_end(rest, how)?;
     let head = Head {
         command: false,
         code: words.1,
@@ -164,8 +164,8 @@ fn read_group_head<'t, 'a>(
     Ok((head, rest))
 }
 
-/// Behind `Diameter`: `Header`, and the rest of a command's head.
-fn read_header_and_command_head<'t, 'a>(
+/// A command's head behind `Diameter`: "Header", and from its colon on.
+fn read_command_head_from_header<'t, 'a>(
     tokens: &'t [Token<'a>],
     how: Reading,
 ) -> Result<(Head<'a>, &'t [Token<'a>]), usize>
@@ -176,11 +176,11 @@ fn read_header_and_command_head<'t, 'a>(
     ensures shorter { IfOk result (λ x. length x.1.now < length tokens.now) }
 {
     let (_header, rest) = expect_token(tokens, how, Terminal::One(Symbol::Header))?;
-    read_command_head(rest, how)
+    read_command_head_from_colon(rest, how)
 }
 
-/// Behind `AVP`: `Header`, and the rest of a group's head.
-fn read_header_and_group_head<'t, 'a>(
+/// A group's head behind `AVP`: "Header", and from its colon on.
+fn read_group_head_from_header<'t, 'a>(
     tokens: &'t [Token<'a>],
     how: Reading,
 ) -> Result<(Head<'a>, &'t [Token<'a>]), usize>
@@ -191,7 +191,7 @@ fn read_header_and_group_head<'t, 'a>(
     ensures shorter { IfOk result (λ x. length x.1.now < length tokens.now) }
 {
     let (_header, rest) = expect_token(tokens, how, Terminal::One(Symbol::Header))?;
-    read_group_head(rest, how)
+    read_group_head_from_colon(rest, how)
 }
 
 /// A head: ("Diameter" "Header" | "Diameter-Header") or ("AVP" "Header" | "AVP-Header"), and its rest.
@@ -209,10 +209,10 @@ pub(crate) fn read_head<'t, 'a>(
         return Err(how.last);
     };
     match first.symbol {
-        Symbol::Diameter => read_header_and_command_head(rest, how),
-        Symbol::DiameterHeader => read_command_head(rest, how),
-        Symbol::Avp => read_header_and_group_head(rest, how),
-        Symbol::AvpHeader => read_group_head(rest, how),
+        Symbol::Diameter => read_command_head_from_header(rest, how),
+        Symbol::DiameterHeader => read_command_head_from_colon(rest, how),
+        Symbol::Avp => read_group_head_from_header(rest, how),
+        Symbol::AvpHeader => read_group_head_from_colon(rest, how),
         _ => Err(first.line),
     }
 }

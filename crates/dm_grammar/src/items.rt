@@ -14,12 +14,12 @@ ghost use Rattle.dm_grammar.specs.Told.{Gathered, collect, filled, items_told, i
 ghost use Rattle.dm_grammar.specs.Tokens.{tokens};
 ghost use Rattle.dm_grammar.specs.Views.{view_word, view_entry, view_head, view_item, view_words};
 
-use crate::avp::read_avp_item;
+use crate::avp::read_avp_item_from_name;
 use crate::fault::ItemFault;
 use crate::first_tokens::{same_tokens, take_token_if};
 use crate::head::Head;
 use crate::item::{CommandItem, EntryItem, GroupItem, Item};
-use crate::lex::{last_line_number, read_tokens};
+use crate::lex::{line_of_last_octet, read_tokens};
 use crate::reading::Reading;
 use crate::rule::read_rule;
 use crate::symbol::Symbol;
@@ -97,7 +97,7 @@ fn read_vendor_or_avp<'t, 'a>(
             Err(line) => Err(ItemFault::Syntax(line)),
         }
     } else {
-        let (avp, rest) = read_avp_item(alloc, tokens, how)?;
+        let (avp, rest) = read_avp_item_from_name(alloc, tokens, how)?;
         Ok((Item::Avp(avp), rest))
     }
 }
@@ -187,7 +187,7 @@ fn read_items_by_steps(alloc: Global, text: &[u8]) -> Result<Vec<Item<'_>>, Item
     ensures items { IfOk result (λ items. items_or_line text.now ≡ Ok (map view_item items.items)) }
     ensures fault { IfErr result (λ fault. IfSyntax fault (λ line. items_or_line text.now ≡ Err line)) }
 {
-    let last = last_line_number(text);
+    let last = line_of_last_octet(text);
     let all = read_tokens(alloc, text).map_err(|_| ItemFault::NoMemory)?;
     let (version, body) = read_version_and_body(all.as_slice());
     let found = read_all_items(alloc, body, Reading { version, last });

@@ -36,7 +36,7 @@ pub fn tokens_are_items_or_have_a_fault()
 
 /// A law of the definitions, with nothing to run. A word that isn't digits alone is a name, also where it has a
 /// place of its own.
-pub fn words_beyond_digits_are_names()
+pub fn words_not_all_digits_are_names()
     ensures name { (word : List ℕ) → is_digits word ≡ false → is_name_symbol (symbol_of_word word) ≡ true }
 {}
 
@@ -45,7 +45,7 @@ pub fn words_beyond_digits_are_names()
 /// lists; and it has a Syntax fault at a line exactly where the first token with which no such text can begin
 /// stands there, or where it is the last line of a text that could go on and isn't one yet. No text of version 1
 /// begins with `@` and `2`, so each is read by its own grammar.
-pub fn unmarked_items_are_first_version()
+pub fn unmarked_texts_have_first_version_items()
     ensures items { (text : List ℕ) (items : List Written) → is_second (tokens text) ≡ false
         → AreItems items (tokens text) ↔ AreFirstWritten items (tokens text) }
     ensures fault { (text : List ℕ) (line : ℕ) → is_second (tokens text) ≡ false → IsSyntaxFault text line

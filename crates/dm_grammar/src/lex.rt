@@ -1,4 +1,4 @@
-//! The text's octets to its tokens.
+//! The text's octets to its tokens, and the number of its last line.
 
 ghost use Rattle.std.specs.Prelude.{◌≡◌, ◌≤◌, ◌<◌, ◌+◌, ◌*◌, length, take, drop, not, IfSome, IfOk, map};
 ghost use Rattle.std.specs.List.{count_by, prefix_len};
@@ -51,7 +51,7 @@ fn word_len_of_sixteen(octets: u8x16) -> usize
     ensures value { result ≡ prefix_len goes_on octets }
     ensures within { result ≤ 16 }
 {
-    let ends = word_end_mask(octets);
+    let ends = non_word_octet_mask(octets);
     if ends == 0 {
         16
     } else {
@@ -61,7 +61,7 @@ fn word_len_of_sixteen(octets: u8x16) -> usize
 
 /// A bit for each octet that is none of a word's.
 #[inline(always)]
-fn word_end_mask(octets: u8x16) -> u64
+fn non_word_octet_mask(octets: u8x16) -> u64
     ensures { result ≡ mask_l (map (λ c. not (goes_on c)) octets) }
 {
     let numbers = (octets - u8x16::splat(b'0')).simd_lt(u8x16::splat(10));
@@ -94,8 +94,8 @@ fn len_to_line_end(text: &[u8]) -> usize
     n
 }
 
-/// The token with which the text begins, and its length in octets: the longest word, `::=`, or one octet.
-fn first_lexeme(text: &[u8]) -> (Symbol, usize)
+/// The symbol of the token with which the text begins, and its length in octets: the longest word, `::=`, or one octet.
+fn first_symbol_and_len(text: &[u8]) -> (Symbol, usize)
     requires { 0 < length text.now }
     ensures value { result ≡ lexeme_of text.now }
     ensures within { result.1 ≤ length text.now }
@@ -130,7 +130,7 @@ fn next_token(text: &[u8], at: usize, line: usize) -> Option<(Token<'_>, usize)>
         } else if first == b';' {
             at += len_to_line_end(&text[at..]);
         } else {
-            let (symbol, len) = first_lexeme(&text[at..]);
+            let (symbol, len) = first_symbol_and_len(&text[at..]);
             let token = Token {
                 symbol,
                 text: &text[at..at + len],
@@ -158,7 +158,7 @@ pub(crate) fn read_tokens(alloc: Global, text: &[u8]) -> Result<Vec<Token<'_>>, 
 }
 
 /// The line of the last octet, from 1: a last line feed begins no line.
-pub(crate) fn last_line_number(text: &[u8]) -> usize
+pub(crate) fn line_of_last_octet(text: &[u8]) -> usize
     ensures { result ≡ last_line text.now }
 {
     match text.split_last() {
@@ -173,11 +173,11 @@ fn count_line_feeds(text: &[u8]) -> usize
     ensures within { result ≤ length text.now }
 {
     let runs = text.len() / 16;
-    count_line_feeds_in_runs(text, runs) + count_line_feeds_in_few(&text[16 * runs..])
+    count_line_feeds_by_sixteens(text, runs) + count_line_feeds_in_few(&text[16 * runs..])
 }
 
 /// How many of the octets of so many runs of sixteen are line feeds.
-fn count_line_feeds_in_runs(text: &[u8], runs: usize) -> usize
+fn count_line_feeds_by_sixteens(text: &[u8], runs: usize) -> usize
     requires { 16 * runs ≤ length text.now }
     ensures value { result ≡ count_by is_line_feed (take (16 * runs) text.now) }
     ensures within { result ≤ 16 * runs }

@@ -28,8 +28,8 @@ pub use item::{
 };
 pub use items::read_items;
 pub use law::{
-    items_are_what_steps_take, tokens_are_items_or_have_a_fault, unmarked_items_are_first_version,
-    words_beyond_digits_are_names,
+    items_are_what_steps_take, tokens_are_items_or_have_a_fault,
+    unmarked_texts_have_first_version_items, words_not_all_digits_are_names,
 };
 pub use reading::Version;
 pub use symbol::Symbol;

@@ -6,7 +6,7 @@ ghost use Rattle.dm_grammar.specs.Readers.{IfSyntax, with_rule};
 ghost use Rattle.dm_grammar.specs.Told.{collect};
 ghost use Rattle.dm_grammar.specs.Views.{view_entry, view_words};
 
-use crate::entry::{begins_entry, read_entry};
+use crate::entry::{begins_entry_not_title, read_entry};
 use crate::fault::ItemFault;
 use crate::first_tokens::same_tokens;
 use crate::item::EntryItem;
@@ -28,7 +28,7 @@ pub(crate) fn read_rule<'t, 'a>(
 {
     let mut entries = Vec::new(alloc);
     let mut rest = tokens;
-    while begins_entry(rest) {
+    while begins_entry_not_title(rest) {
         match read_entry(rest, how) {
             Ok((entry, after)) => {
                 entries.push(entry).map_err(|_| ItemFault::NoMemory)?;

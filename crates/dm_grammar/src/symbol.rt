@@ -1,4 +1,4 @@
-//! What a token is.
+//! Symbols: what a token is, told by its octets.
 
 ghost use Rattle.std.specs.Prelude.{◌≡◌, map};
 ghost use Rattle.dm_grammar.specs.Symbols.{mark_of, key_word, key_words, symbol_among, symbol_of_word, is_digits};

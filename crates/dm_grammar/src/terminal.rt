@@ -1,4 +1,4 @@
-//! What a step of the grammar takes.
+//! Terminals: what a step of the grammar takes, and whether it takes a symbol; many symbols are names.
 
 ghost use Rattle.std.specs.Prelude.{◌≡◌};
 ghost use Rattle.dm_grammar.specs.Grammar.{is_name_symbol, fits};

@@ -76,7 +76,7 @@ fn read_title<'t, 'a>(
 }
 
 /// title "::=" "<"
-fn read_title_and_marks<'t, 'a>(
+fn read_title_up_to_head<'t, 'a>(
     tokens: &'t [Token<'a>],
     how: Reading,
 ) -> Result<(Token<'a>, &'t [Token<'a>]), usize>
@@ -111,7 +111,7 @@ pub(crate) fn read_title_and_head<'t, 'a>(
         (λ line. collect how Text (view_words tokens.now) ≡ Err line) }
     ensures shorter { IfOk result (λ x. length x.1.now < length tokens.now) }
 {
-    let (name, rest) = read_title_and_marks(tokens, how)?;
+    let (name, rest) = read_title_up_to_head(tokens, how)?;
     let (head, rest) = read_head(rest, how)?;
     Ok(((name, head), rest))
 }

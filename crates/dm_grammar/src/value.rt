@@ -38,7 +38,7 @@ fn read_comma_or_list_end<'t, 'a>(
 }
 
 /// A value, and whether another follows: name number, and `,` or `}`.
-fn read_value_item_and_end<'t, 'a>(
+fn read_value_and_comma_or_end<'t, 'a>(
     tokens: &'t [Token<'a>],
     how: Reading,
 ) -> Result<((ValueItem<'a>, bool), &'t [Token<'a>]), usize>
@@ -79,7 +79,7 @@ pub(crate) fn read_value_list<'t, 'a>(
     let mut rest = tokens;
     let mut more = list;
     while more {
-        match read_value_item_and_end(rest, how) {
+        match read_value_and_comma_or_end(rest, how) {
             Ok(((value, goes_on), after)) => {
                 found.push(value).map_err(|_| ItemFault::NoMemory)?;
                 rest = same_tokens(after);

@@ -1,4 +1,4 @@
-//! Vendors: as items, and behind a type.
+//! Vendors: as items, and behind the type or the code of an AVP.
 
 ghost use Rattle.std.specs.Prelude.{◌≡◌, ◌<◌, ◌≤◌, drop, true, length, MatchResult, IfOk, Err, if◌then◌else◌};
 ghost use Rattle.dm_grammar.specs.Items.Written.{VendorIs};

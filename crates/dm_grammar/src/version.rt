@@ -1,4 +1,4 @@
-//! The version of a text.
+//! The version of a text, told by its first two tokens.
 
 ghost use Rattle.std.specs.Prelude.{◌≡◌};
 ghost use Rattle.dm_grammar.specs.Versions.{body_of, is_second, is_two, version_of};

@@ -7,10 +7,11 @@ ghost use Rattle.dm_history.specs.Staying.{EachOpenStays, EachOpenLasts, EachCou
 ghost use Rattle.dm_history.specs.Opened.{EachOpeningWasAsked};
 
 use dm_machine::laws::{
-    ceas_open_and_what_is_given_up_is_closed, dwas_dpas_and_refusals_have_requests,
-    each_connection_changes_as_allowed, each_order_is_a_command, few_steps_stand_for_all,
-    made_taken_and_open_connections_have_causes, open_connections_carry_user_messages,
-    shaped_nodes_have_eight_forms, what_unread_messages_say_makes_no_difference,
+    acked_taken_and_open_connections_have_causes, ceas_open_and_cers_go_at_acks,
+    connection_changes_and_orders_are_allowed, connection_orders_are_its_commands,
+    dwas_dpas_and_refusals_have_requests, few_steps_stand_for_all,
+    given_up_is_closed_others_left_alone, messages_do_the_same_where_unread,
+    open_connections_carry_user_messages, shaped_nodes_have_eight_forms,
 };
 use dm_peer::laws::{each_event_keeps_peers_settled, events_are_steps_drops_or_refusals};
 
@@ -22,10 +23,11 @@ pub fn each_opening_follows_cer_and_cea()
 {
     each_event_keeps_peers_settled();
     shaped_nodes_have_eight_forms();
-    made_taken_and_open_connections_have_causes();
-    ceas_open_and_what_is_given_up_is_closed();
-    each_order_is_a_command();
-    what_unread_messages_say_makes_no_difference();
+    acked_taken_and_open_connections_have_causes();
+    ceas_open_and_cers_go_at_acks();
+    given_up_is_closed_others_left_alone();
+    connection_orders_are_its_commands();
+    messages_do_the_same_where_unread();
 }
 
 /// What a peer hands up came just then on the one connection on which it is open, where each message of another command
@@ -36,11 +38,12 @@ pub fn each_run_carries_user_messages()
 {
     each_event_keeps_peers_settled();
     shaped_nodes_have_eight_forms();
-    made_taken_and_open_connections_have_causes();
-    ceas_open_and_what_is_given_up_is_closed();
+    acked_taken_and_open_connections_have_causes();
+    ceas_open_and_cers_go_at_acks();
+    given_up_is_closed_others_left_alone();
     dwas_dpas_and_refusals_have_requests();
-    each_order_is_a_command();
-    what_unread_messages_say_makes_no_difference();
+    connection_orders_are_its_commands();
+    messages_do_the_same_where_unread();
     open_connections_carry_user_messages();
 }
 
@@ -51,15 +54,15 @@ pub fn ended_connections_stay_silent_until_named()
     ensures last { EachEndIsLast }
     ensures behind { NothingFollowsClose }
 {
-    each_connection_changes_as_allowed();
+    connection_changes_and_orders_are_allowed();
     each_event_keeps_peers_settled();
-    ceas_open_and_what_is_given_up_is_closed();
-    each_order_is_a_command();
+    given_up_is_closed_others_left_alone();
+    connection_orders_are_its_commands();
 }
 
 /// From any peer on, through every list of events: what is handed up is just the messages of other commands than 257,
 /// 280 and 282 that came on the connection on which the peer was open, each once, in order, octet for octet.
-pub fn each_run_hands_up_in_order()
+pub fn runs_hand_up_all_in_order()
     ensures { EachRunIsInOrder }
 {
     each_event_keeps_peers_settled();

@@ -13,8 +13,8 @@ ghost use Rattle.dm_history.specs.Telling.{RepliesSo, Replied, events_told, run_
 
 use crate::laws::{
     each_done_submit_is_sent_once, each_opening_follows_cer_and_cea,
-    each_run_carries_user_messages, each_run_hands_up_in_order,
-    ended_connections_stay_silent_until_named, only_listed_events_end_open_connections,
+    each_run_carries_user_messages, ended_connections_stay_silent_until_named,
+    only_listed_events_end_open_connections, runs_hand_up_all_in_order,
     watchdogs_count_ticks_since_something_came,
 };
 use dm_dict::NoMemory;
@@ -129,7 +129,7 @@ pub fn run(peer: &mut Peer, alloc: Global, events: &[Event<'_>]) -> Report
     each_opening_follows_cer_and_cea();
     each_run_carries_user_messages();
     ended_connections_stay_silent_until_named();
-    each_run_hands_up_in_order();
+    runs_hand_up_all_in_order();
     each_done_submit_is_sent_once();
     only_listed_events_end_open_connections();
     watchdogs_count_ticks_since_something_came();

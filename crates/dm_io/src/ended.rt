@@ -4,7 +4,7 @@ ghost use Rattle.std.specs.Io.KnownBytes.{Appends};
 ghost use Rattle.std.specs.Process.{exit_status};
 ghost use Rattle.dm_io.specs.Ending.{line_of};
 
-use crate::written::write_line_if_any;
+use crate::written::write_line_unless_empty;
 use std::io::Write;
 use std::process::ExitCode;
 
@@ -21,7 +21,7 @@ pub struct Ended<T> {
 
 /// Writes the words to standard error, a line feed behind them, and nothing where there are none. It answers how the
 /// program ends then: with this outcome and this status.
-pub fn write_ending_words<T, E: Write>(
+pub fn end_with_status_and_words<T, E: Write>(
     outcome: Option<T>,
     status: u8,
     words: &str,
@@ -33,7 +33,7 @@ pub fn write_ending_words<T, E: Write>(
     ensures front { (front rest : List ℕ) × (line_of words.now ≡ front ++ rest)
         × Appends (E.contents errors.old) (E.contents errors.new) front }
 {
-    let told = write_line_if_any(words, errors);
+    let told = write_line_unless_empty(words, errors);
     Ended {
         outcome,
         status,

@@ -5,7 +5,7 @@ mod ended;
 mod words;
 mod written;
 
-pub use crate::ended::{Ended, exit_code, write_ending_words};
+pub use crate::ended::{Ended, end_with_status_and_words, exit_code};
 pub use crate::words::{WordsFault, command_line_words};
 pub use crate::written::write_text_and_flush;
 

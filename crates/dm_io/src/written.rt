@@ -1,4 +1,4 @@
-//! Texts written whole.
+//! Texts written whole to a writer, and a line to standard error.
 ghost use Rattle.std.specs.Prelude.{◌≡◌, ◌++◌, ℕ, List, OnOk, OnErr, true};
 ghost use Rattle.std.specs.Io.KnownBytes.{Appends};
 ghost use Rattle.dm_io.specs.Ending.{line_of};
@@ -17,12 +17,12 @@ pub fn write_text_and_flush<W: Write>(writer: &mut W, text: &[u8]) -> io::Result
     ensures front { OnErr result ((front rest : List ℕ) × (text.now ≡ front ++ rest)
         × Appends (W.contents writer.old) (W.contents writer.new) front) }
 {
-    write_octets(writer, text)?;
+    write_all_octets(writer, text)?;
     writer.flush()
 }
 
 /// Writes the octets. Where that fails, a front of them was written.
-fn write_octets<W: Write>(writer: &mut W, text: &[u8]) -> io::Result<()>
+fn write_all_octets<W: Write>(writer: &mut W, text: &[u8]) -> io::Result<()>
     ensures whole { OnOk result (Appends (W.contents writer.old) (W.contents writer.new) text.now) }
     ensures front { OnErr result ((front rest : List ℕ) × (text.now ≡ front ++ rest)
         × Appends (W.contents writer.old) (W.contents writer.new) front) }
@@ -46,7 +46,7 @@ fn write_octets<W: Write>(writer: &mut W, text: &[u8]) -> io::Result<()>
 }
 
 /// Writes the words and a line feed, or nothing where there are no words. False where that fails.
-pub(crate) fn write_line_if_any<E: Write>(words: &str, errors: &mut E) -> bool
+pub(crate) fn write_line_unless_empty<E: Write>(words: &str, errors: &mut E) -> bool
     ensures told { result ≡ true → Appends (E.contents errors.old) (E.contents errors.new) (line_of words.now) }
     ensures front { (front rest : List ℕ) × (line_of words.now ≡ front ++ rest)
         × Appends (E.contents errors.old) (E.contents errors.new) front }

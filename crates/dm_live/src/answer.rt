@@ -1,4 +1,4 @@
-//! What a line asks, told and answered.
+//! What a line asks, told and answered, and which neighbour that concerned.
 ghost use Rattle.std.specs.Prelude.{◌≡◌, ◌++◌, ℕ, List, None, Some, true, false, IfOk, IfSome, IfNone, OnOk};
 ghost use Rattle.std.specs.Option.{option_or};
 ghost use Rattle.std.specs.String.{string_bytes};
@@ -11,7 +11,7 @@ ghost use Rattle.dm_live.specs.Meetings.{meeting_of};
 ghost use Rattle.dm_live.specs.OrderLines.{order_asked};
 
 use crate::answer_lines::{
-    put_answer_states, put_event_answer, put_ignored_if_event_order, put_neighbour_line,
+    put_answer_states, put_event_answer, put_ignored_if_event_order, put_neighbour_line_if_any,
     put_order_refusal, put_turn,
 };
 use crate::asked::Asked;
@@ -20,7 +20,7 @@ use dm_machine::Conn;
 use dm_node::{Alone, Answer, Node, Order, OrderFault, Told};
 use std::alloc::{AllocError, Global};
 
-/// Tells the node, of so many peers, what a line asks of it, and appends the line's answer.
+/// Tells the node, of so many peers, what a line asks of it, and appends the line's answer, but for the dot behind it.
 ///
 /// Behind a piece all that came on its connection is told, message by message. Where memory is wanted some of it may be
 /// told, and a front of the answer may stand in the text.
@@ -80,7 +80,7 @@ fn answer_order(
         Ok(()) => put_order_outcome(text, form, order, answer),
         Err(fault) => {
             let who = refusing_neighbour(order, fault);
-            put_neighbour_line(text, form, who)?;
+            put_neighbour_line_if_any(text, form, who)?;
             put_order_refusal(text, fault)?;
             Ok(who)
         }
@@ -212,15 +212,15 @@ fn tell_next_that_came(
         × (meeting_of node.new ≡ meeting_of node.old) × (last.new ≡ last.old)
         × (string_bytes text.new ≡ string_bytes text.old)) }
 {
-    match tell_turn(alloc, form, node, conn, answer) {
-        Ok(()) => put_turn_and_set_last(text, form, conn, last, answer),
+    match tell_turn_if_any(alloc, form, node, conn, answer) {
+        Ok(()) => put_turn_if_any(text, form, conn, last, answer),
         Err(error) => Err(error),
     }
 }
 
 /// Appends what a turn of the connection comes to, if there was one, and answers whether; `last` is whom it concerned,
 /// where it concerned anybody.
-fn put_turn_and_set_last(
+fn put_turn_if_any(
     text: &mut String,
     form: Form,
     conn: Conn,
@@ -245,7 +245,7 @@ fn put_turn_and_set_last(
 
 /// Tells the next message that came on the connection, or a fault, if there is one. What strangers send is told a peer
 /// that is alone.
-fn tell_turn(
+fn tell_turn_if_any(
     alloc: Global,
     form: Form,
     node: &mut Node,

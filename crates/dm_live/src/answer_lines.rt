@@ -86,8 +86,12 @@ fn put_peer_refusal(text: &mut String, fault: PeerFault) -> Result<(), AllocErro
     }
 }
 
-/// Appends that the line of this number has this fault.
-pub(crate) fn put_fault_answer(text: &mut String, number: u64, name: &str) -> Result<(), AllocError>
+/// Appends that the line of this number has this fault, and the dot that ends its answer.
+pub(crate) fn put_fault_line_and_dot(
+    text: &mut String,
+    number: u64,
+    name: &str,
+) -> Result<(), AllocError>
     ensures { OnOk result (string_bytes text.new ≡ string_bytes text.old ++ fault_answer number name.now) }
 {
     text.push_str("fault ")?;
@@ -124,9 +128,9 @@ fn put_standing(text: &mut String, peer: &Peer) -> Result<(), AllocError>
     Ok(())
 }
 
-/// Appends which neighbour of several an event concerned, where it concerned one.
+/// Appends which neighbour of several an event concerned, where it concerned one; nothing about a peer alone.
 #[tactic(auto, unfolding(crate::specs::Answers::neighbour_line))]
-pub(crate) fn put_neighbour_line(
+pub(crate) fn put_neighbour_line_if_any(
     text: &mut String,
     form: Form,
     index: Option<usize>,
@@ -149,7 +153,7 @@ pub(crate) fn put_event_answer(
     ensures { OnOk result (string_bytes text.new
         ≡ string_bytes text.old ++ event_lines form (as_answer answer.now)) }
 {
-    put_neighbour_line(text, form, answer.neighbour)?;
+    put_neighbour_line_if_any(text, form, answer.neighbour)?;
     put_action_lines(text, answer.actions.as_slice())
 }
 
@@ -163,7 +167,7 @@ pub(crate) fn put_turn(
     ensures { OnOk result (IfSome (turn_in conn turn.now) (λ told. string_bytes text.new
         ≡ string_bytes text.old ++ turn_lines form told)) }
 {
-    put_neighbour_line(text, form, turn.neighbour)?;
+    put_neighbour_line_if_any(text, form, turn.neighbour)?;
     put_arrival_line_if_message(text, conn, turn.told)?;
     put_action_lines(text, turn.actions.as_slice())
 }

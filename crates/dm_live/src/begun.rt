@@ -7,7 +7,7 @@ ghost use Rattle.dm_live.specs.Drafts.{settings_of};
 ghost use Rattle.dm_live.specs.Served.{fault_answer};
 ghost use Rattle.dm_live.specs.Stages.{IsBegun};
 
-use crate::answer_lines::put_fault_answer;
+use crate::answer_lines::put_fault_line_and_dot;
 use crate::configuration::Draft;
 use crate::form::{Form, form_of};
 use crate::peers::node_with_peers;
@@ -23,8 +23,8 @@ pub(crate) enum Begun {
     Running(Form, Node),
 }
 
-/// What the configuration begins; and appends that it does, or why it begins nothing.
-pub(crate) fn begin_configured_node(
+/// What the configuration begins; and appends the answer to `go`: that it does, or why it begins nothing.
+pub(crate) fn answer_go(
     alloc: Global,
     draft: &Draft,
     number: u64,
@@ -34,7 +34,7 @@ pub(crate) fn begin_configured_node(
         × (string_bytes text.new ≡ string_bytes text.old ++ answer)) }
 {
     match draft.config_for_first_peer(alloc)? {
-        Ok(config) => begin_node(alloc, draft, config, number, text),
+        Ok(config) => begin_node_and_answer(alloc, draft, config, number, text),
         Err(name) => refuse_to_begin(number, name, text),
     }
 }
@@ -44,12 +44,12 @@ fn refuse_to_begin(number: u64, name: &str, text: &mut String) -> Result<Begun, 
     ensures nothing { IfOk result (λ begun. begun ≡ Begun.Nothing) }
     ensures answer { OnOk result (string_bytes text.new ≡ string_bytes text.old ++ fault_answer number name.now) }
 {
-    put_fault_answer(text, number, name)?;
+    put_fault_line_and_dot(text, number, name)?;
     Ok(Begun::Nothing)
 }
 
-/// The node with its peers, or nothing, where one can't be had; and appends which of the two.
-fn begin_node(
+/// The node with its peers, or nothing, where one can't be had; and appends `ready` or why not, and the dot behind it.
+fn begin_node_and_answer(
     alloc: Global,
     draft: &Draft,
     config: Config,

@@ -15,7 +15,8 @@ ghost use Rattle.dm_live.specs.Settings.{TellsOne, TellsSpecific, TellsSetting};
 
 use crate::setting_name::{SettingName, read_setting_name, read_vendor_application_name};
 use crate::setting_words::{
-    push_address, push_name, push_number, set_name, set_number, set_optional_number, set_text,
+    push_address, push_any_name, push_number, set_any_name, set_number, set_optional_number,
+    set_text,
 };
 use dm_base::{Extras, ExtrasFault, Node, NodeFault, VendorApplication};
 use dm_peer::{Config, ConfigFault};
@@ -153,8 +154,8 @@ impl Draft {
         ensures kept { IfOk result (λ good. good ≡ false → settings_of self.new ≡ settings_of self.old) }
     {
         match name {
-            SettingName::Host => set_name(&mut self.host, word),
-            SettingName::Realm => set_name(&mut self.realm, word),
+            SettingName::Host => set_any_name(&mut self.host, word),
+            SettingName::Realm => set_any_name(&mut self.realm, word),
             SettingName::Address => push_address(&mut self.addresses, word),
             SettingName::Vendor => Ok(set_number(&mut self.vendor, word)),
             SettingName::Product => set_text(&mut self.product, word),
@@ -163,7 +164,7 @@ impl Draft {
             SettingName::Supports => push_number(&mut self.vendors, word),
             SettingName::Firmware => Ok(set_optional_number(&mut self.firmware, word)),
             SettingName::State => Ok(set_optional_number(&mut self.state_id, word)),
-            SettingName::Peer => push_name(&mut self.peers, word),
+            SettingName::Peer => push_any_name(&mut self.peers, word),
             SettingName::Compare => Ok(set_number(&mut self.compare, word)),
             SettingName::First => Ok(set_number(&mut self.first_id, word)),
             SettingName::Early => Ok(set_number(&mut self.first_max, word)),
@@ -233,13 +234,13 @@ impl Draft {
     {
         let peer = Vec::from_slice(alloc, self.first_peer_host())?;
         match Config::new(alloc, node, peer, self.first_id) {
-            Ok(config) => Ok(Ok(self.with_comparison_if_set(config))),
+            Ok(config) => Ok(Ok(self.comparing_cea_host_if_set(config))),
             Err(fault) => Ok(Err(config_fault_name(fault)?)),
         }
     }
 
-    /// The configuration, which compares the host that a CEA names where the lines say so.
-    fn with_comparison_if_set(&self, config: Config) -> Config
+    /// The configuration, which compares the host that a CEA names with the peer's where the lines say so.
+    fn comparing_cea_host_if_set(&self, config: Config) -> Config
         ensures node { result.node ≡ config.node }
         ensures peer { result.peer ≡ config.peer }
         ensures first_id { result.first_id ≡ config.first_id }

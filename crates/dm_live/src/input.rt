@@ -35,7 +35,7 @@ fn extend_line<R: BufRead>(reader: &mut R, line: &mut Vec<u8>) -> Result<bool, L
         Ok(octets) => octets,
         Err(error) => return fault_unless_interrupted(error),
     };
-    let (end, done) = line_part_end(octets);
+    let (end, done) = line_part_len_and_is_last(octets);
     line.extend_from_slice(&octets[..end])?;
     reader.consume(end);
     Ok(done)
@@ -55,7 +55,7 @@ fn fault_unless_interrupted(error: Error) -> Result<bool, LiveFault>
 
 /// How many octets there are up to the first LF and with it, or all of them; and whether that was it, or none are
 /// there.
-fn line_part_end(octets: &[u8]) -> (usize, bool)
+fn line_part_len_and_is_last(octets: &[u8]) -> (usize, bool)
     ensures bound { result.0 ≤ length octets.now }
     ensures some { 0 < length octets.now → 0 < result.0 }
     ensures stops { StopsAt (take result.0 octets.now) 10 }
@@ -77,12 +77,12 @@ fn remove_end_unless_empty(line: &mut Vec<u8>) -> bool
     if line.is_empty() {
         return false;
     }
-    remove_line_end(line);
+    remove_lf_or_crlf(line);
     true
 }
 
 /// Takes the line's LF off, and a CR right before that.
-fn remove_line_end(line: &mut Vec<u8>)
+fn remove_lf_or_crlf(line: &mut Vec<u8>)
     ensures { line.new.items ≡ without_end line.old.items }
 {
     if let Some(b'\n') = line.last() {

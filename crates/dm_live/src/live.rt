@@ -1,4 +1,4 @@
-//! A run of the program, line by line.
+//! A run of the program, line by line: the configuration up to `go`, and the lines of the node behind it.
 ghost use Rattle.std.specs.Prelude.{◌≡◌, ◌++◌, ℕ, List, true, false, OnOk};
 ghost use Rattle.std.specs.String.{string_bytes};
 ghost use Rattle.dm_live.specs.Drafts.{settings_of};
@@ -9,12 +9,12 @@ ghost use Rattle.dm_live.specs.Settings.{no_settings};
 ghost use Rattle.dm_live.specs.Stages.{stage_of};
 
 use crate::answer::answer_order_or_piece;
-use crate::answer_lines::put_fault_answer;
-use crate::begun::{Begun, begin_configured_node};
+use crate::answer_lines::put_fault_line_and_dot;
+use crate::begun::{Begun, answer_go};
 use crate::configuration::Draft;
 use crate::form::Form;
 use crate::order_line::read_order_line;
-use crate::sender_lines::{put_sender_answer, read_sender_line};
+use crate::sender_lines::{put_acquaintance_or_refusal, read_sender_line};
 use dm_node::{Answer, Node};
 use dm_text::Words;
 use std::alloc::{AllocError, Global};
@@ -41,7 +41,7 @@ impl Live {
         }
     }
 
-    /// Goes on with the line of this number, and appends its answer.
+    /// Goes on with the line of this number, and appends its answer, with the dot behind it, if it has one.
     pub(crate) fn answer_line(
         &mut self,
         alloc: Global,
@@ -65,7 +65,7 @@ impl Live {
             );
         }
         if is_go(line) {
-            let begun = begin_configured_node(alloc, &self.draft, number, text)?;
+            let begun = answer_go(alloc, &self.draft, number, text)?;
             self.set_begun(begun);
             return Ok(());
         }
@@ -108,7 +108,7 @@ fn take_or_refuse_line(
     if draft.take_line(line)? {
         Ok(())
     } else {
-        put_fault_answer(text, number, "Syntax")
+        put_fault_line_and_dot(text, number, "Syntax")
     }
 }
 
@@ -127,7 +127,7 @@ fn answer_line_by_running_node(
         × (string_bytes text.new ≡ string_bytes text.old ++ answer)) }
 {
     if let Some(index) = read_sender_line(form, line) {
-        put_sender_answer(alloc, text, node.known(index))?;
+        put_acquaintance_or_refusal(alloc, text, node.known(index))?;
         return text.push_str(".\n");
     }
     match read_order_line(alloc, form, line)? {
@@ -135,6 +135,6 @@ fn answer_line_by_running_node(
             answer_order_or_piece(alloc, form, node, order.as_order_or_piece(), answer, text)?;
             text.push_str(".\n")
         }
-        None => put_fault_answer(text, number, "Syntax"),
+        None => put_fault_line_and_dot(text, number, "Syntax"),
     }
 }

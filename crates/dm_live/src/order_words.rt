@@ -11,7 +11,7 @@ use crate::form::Form;
 use dm_base::Cause;
 use dm_machine::Conn;
 use dm_text::{Words, read_long_number};
-use dm_words::{next_long_number, only_word_left, read_disconnect_cause};
+use dm_words::{next_long_number, only_word_left, read_disconnect_cause_by_number};
 
 /// The connection whose number the next word tells; None where it tells none.
 fn next_conn(left: &mut Words<'_>) -> Option<Conn>
@@ -117,7 +117,7 @@ pub(crate) fn only_cause_left(left: &mut Words<'_>) -> Option<Cause>
     ensures none { IfNone result ((cause : Cause) (number : List ℕ) → words left.old ≡ number ∷ []
         → TellsNumber (cause_number cause) number → ⊥) }
 {
-    read_disconnect_cause(only_word_left(left)?)
+    read_disconnect_cause_by_number(only_word_left(left)?)
 }
 
 /// Whether no word is left.

@@ -40,8 +40,9 @@ fn add_peer(
     }
 }
 
-/// Adds a closed neighbour for each host, in order, or answers the name of why the first can't be had that can't.
-fn add_peers(
+/// Adds a closed neighbour for each host, the template's own among them, in order, or answers the name of why the first
+/// can't be had that can't.
+fn add_all_peers(
     alloc: Global,
     draft: &Draft,
     template: &Config,
@@ -91,7 +92,7 @@ pub(crate) fn node_with_peers(
         draft.max_early_message_len(),
         draft.max_later_message_len(),
     );
-    match add_peers(alloc, draft, template, &mut node) {
+    match add_all_peers(alloc, draft, template, &mut node) {
         Ok(Ok(())) => Ok(Ok(node)),
         Ok(Err(name)) => {
             drop(node);

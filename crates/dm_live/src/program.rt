@@ -8,7 +8,7 @@ ghost use Rattle.dm_live.specs.Ending.{ending_of, Ran};
 
 use crate::fault::LiveFault;
 use crate::serve::serve_lines;
-use dm_io::{READ_AT_ONCE, WordsFault, write_ending_words};
+use dm_io::{READ_AT_ONCE, WordsFault, end_with_status_and_words};
 use std::alloc::Global;
 use std::io::{BufReader, Read, Write};
 
@@ -110,7 +110,7 @@ fn write_ending_of_outcome<E: Write>(
         × Appends (E.contents errors.old) (E.contents errors.new) front }
 {
     let (status, words) = ending(outcome);
-    write_ending_words(outcome, status, words, errors)
+    end_with_status_and_words(outcome, status, words, errors)
 }
 
 /// The status with which the program ends, and the words for standard error.

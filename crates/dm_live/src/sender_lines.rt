@@ -87,8 +87,8 @@ fn put_host_realm_and_product(text: &mut String, sender: SenderRef<'_>) -> Resul
     put_octets_line(text, "product", sender.product())
 }
 
-/// Appends the applications that the sender says.
-fn put_applications(
+/// Appends the applications that the sender says, of whatever kind.
+fn put_application_ids(
     alloc: Global,
     text: &mut String,
     sender: SenderRef<'_>,
@@ -137,7 +137,7 @@ fn put_vendor_and_firmware(text: &mut String, sender: SenderRef<'_>) -> Result<(
 
 /// Appends the applications and the vendors that the sender supports, and its Origin-State-Id.
 #[tactic(auto, unfolding(crate::specs::SenderLines::ability_lines))]
-fn put_ability_and_state(
+fn put_applications_vendors_and_state(
     alloc: Global,
     text: &mut String,
     sender: SenderRef<'_>,
@@ -145,7 +145,7 @@ fn put_ability_and_state(
     ensures { (l : List Avp) → HasAvps sender.entry l
         → OnOk result (string_bytes text.new ≡ string_bytes text.old ++ ability_lines l) }
 {
-    put_applications(alloc, text, sender)?;
+    put_application_ids(alloc, text, sender)?;
     put_supported_vendors(alloc, text, sender)?;
     put_number_line_if_any(text, "origin-state", sender.state_id())
 }
@@ -164,7 +164,7 @@ fn put_sender_or_nobody(
         Some(sender) => {
             put_host_realm_and_product(text, sender)?;
             put_vendor_and_firmware(text, sender)?;
-            put_ability_and_state(alloc, text, sender)
+            put_applications_vendors_and_state(alloc, text, sender)
         }
         None => text.push_str("nobody\n"),
     }
@@ -172,7 +172,7 @@ fn put_sender_or_nobody(
 
 /// Appends that the other side has begun anew, where it has.
 #[tactic(auto, unfolding(crate::specs::SenderLines::anew_line))]
-fn put_anew_line(text: &mut String, is_anew: bool) -> Result<(), AllocError>
+fn put_line_if_anew(text: &mut String, is_anew: bool) -> Result<(), AllocError>
     ensures { OnOk result (string_bytes text.new ≡ string_bytes text.old ++ anew_line is_anew) }
 {
     if is_anew {
@@ -192,12 +192,12 @@ fn put_acquaintance(
 {
     put_sender_or_nobody(alloc, text, known)?;
     put_number_line_if_any(text, "origin-state-before", known.state_before())?;
-    put_anew_line(text, known.is_anew())
+    put_line_if_anew(text, known.is_anew())
 }
 
 /// Appends who the other side of a neighbour is, or that there is none of the number.
 #[tactic(auto, unfolding(crate::specs::SenderLines::sender_answer))]
-pub(crate) fn put_sender_answer(
+pub(crate) fn put_acquaintance_or_refusal(
     alloc: Global,
     text: &mut String,
     known: Option<&Acquaintance>,

@@ -29,23 +29,29 @@ ghost use Rattle.dm_machine.specs.Unread.{
 
 /// What one step does to one connection: by how the input concerns it and what it is to the node, what it may become
 /// and what it is ordered.
-pub fn each_connection_changes_as_allowed()
+pub fn connection_changes_and_orders_are_allowed()
     ensures { EachConnectionChangesAsAllowed }
 {}
 
-/// What a connection is ordered are commands, and a command to it is an order.
-pub fn each_order_is_a_command()
+/// What a connection is ordered by a list of commands are those of them that name it, whatever step gave them: each
+/// order is one of the commands, and each command to the connection is an order.
+pub fn connection_orders_are_its_commands()
     ensures apart { OrdersAreToldApart }
     ensures command { EachOrderIsACommand }
     ensures order { EachCommandIsAnOrder }
 {}
 
-/// What those changes come to: which command or message goes with each opening, when a CER goes out, what is closed,
-/// what is left alone, and that nothing is ordered behind a Close.
-pub fn ceas_open_and_what_is_given_up_is_closed()
+/// What those changes come to where a connection is opened: which command or message goes with each opening, and when a
+/// CER goes out.
+pub fn ceas_open_and_cers_go_at_acks()
     ensures accepted { OpensAcceptedWithCea }
     ensures initiated { OpensInitiatedAtCea }
     ensures asked { SendsCerAtAck }
+{}
+
+/// What those changes come to where none is: what is closed, what is left alone, and that nothing is ordered behind a
+/// Close.
+pub fn given_up_is_closed_others_left_alone()
     ensures closed { ClosesWhatItGivesUp }
     ensures alone { LeavesOthersAlone }
     ensures last { EndsAtClose }
@@ -53,7 +59,7 @@ pub fn ceas_open_and_what_is_given_up_is_closed()
 
 /// What brings a connection to what it is to a node: a good CER, the CEA that is sent to it, its Ack with the CER, a
 /// good CEA. Of a connection that is pending, closing or not held it says nothing.
-pub fn made_taken_and_open_connections_have_causes()
+pub fn acked_taken_and_open_connections_have_causes()
     ensures { EachHoldIsCaused }
 {}
 
@@ -85,13 +91,13 @@ pub fn few_steps_stand_for_all()
 {}
 
 /// What shape a node keeps: which connections each state holds, and which counts. A step gives at most four commands.
-pub fn each_step_keeps_shape()
+pub fn steps_keep_shape_in_few_commands()
     ensures { EachStepKeepsShape }
 {}
 
 /// Where what a message says makes no difference: on a new connection in a state that reads no first message, before an
 /// Ack, and on an accepted connection that waits for its CEA.
-pub fn what_unread_messages_say_makes_no_difference()
+pub fn messages_do_the_same_where_unread()
     ensures rejected { ClosesUnread }
     ensures dropped { DropsBeforeAck }
     ensures read { ReadsAsPeerDisc }

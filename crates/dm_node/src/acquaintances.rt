@@ -11,8 +11,9 @@ use dm_slots::Acquaintance;
 use dm_wire::Octets;
 use std::alloc::{AllocError, Global};
 
-/// Changes what is known in the place by what came on the connection; nothing where nobody has the place.
-fn meet_by_message_if_any(
+/// Changes what is known in the place where the peer was opened by what came on the connection, or a CER waits by it;
+/// nothing where nobody has the place, nor where the peer was closed.
+fn meet_any_if_opened_by_message(
     place: &mut Option<Acquaintance>,
     exchange: Octets,
     conn: Conn,
@@ -22,16 +23,17 @@ fn meet_by_message_if_any(
     ensures { place.new ≡ option_map (known_if_any exchange conn before peer.now) place.old }
 {
     if let Some(known) = place {
-        known.meet_by_message(exchange, conn, before, peer);
+        known.meet_if_opened_by_message(exchange, conn, before, peer);
     }
 }
 
-/// Changes what is known in the place by an event that brought no message; nothing where nobody has the place.
-fn meet_by_event_if_any(place: &mut Option<Acquaintance>, before: State, peer: &Peer)
+/// Changes what is known in the place where the peer was opened by an event that brought no message; nothing where
+/// nobody has the place, nor where the peer was closed.
+fn meet_any_if_opened_by_event(place: &mut Option<Acquaintance>, before: State, peer: &Peer)
     ensures { place.new ≡ option_map (known_after before peer.now) place.old }
 {
     if let Some(known) = place {
-        known.meet_by_event(before, peer);
+        known.meet_if_opened_by_event(before, peer);
     }
 }
 
@@ -51,7 +53,8 @@ impl Acquaintances {
         }
     }
 
-    /// What is known of the neighbour of the number, where there is one. It takes no memory.
+    /// What is known of the neighbour of the number, also where it met nobody; None where nobody has the number. It
+    /// takes no memory.
     pub(crate) fn get(&self, index: usize) -> Option<&Acquaintance>
         ensures { option_copied result ≡ acquaintance_at (known_of self.now) index }
     {
@@ -100,8 +103,8 @@ impl Acquaintances {
         }
     }
 
-    /// Empties the place of the number. It takes no memory.
-    pub(crate) fn forget(&mut self, index: usize)
+    /// Empties the place of the number, which nobody has from then on. It takes no memory.
+    pub(crate) fn vacate_place(&mut self, index: usize)
         ensures { known_of self.new ≡ without_known (known_of self.old) index }
     {
         if index < self.places.len() {
@@ -110,8 +113,8 @@ impl Acquaintances {
     }
 
     /// What is known of the neighbour of the number behind what came on the connection
-    /// ([`Acquaintance::meet_by_message`]). It takes no memory.
-    pub(crate) fn meet_by_message(
+    /// ([`Acquaintance::meet_if_opened_by_message`]). It takes no memory.
+    pub(crate) fn meet_if_opened_by_message(
         &mut self,
         index: usize,
         exchange: Octets,
@@ -123,17 +126,17 @@ impl Acquaintances {
             ≡ with_known index (known_if_any exchange conn before peer.now) (known_of self.old) }
     {
         if index < self.places.len() {
-            meet_by_message_if_any(&mut self.places[index], exchange, conn, before, peer);
+            meet_any_if_opened_by_message(&mut self.places[index], exchange, conn, before, peer);
         }
     }
 
     /// What is known of the neighbour of the number behind an event that brought no message
-    /// ([`Acquaintance::meet_by_event`]). It takes no memory.
-    pub(crate) fn meet_by_event(&mut self, index: usize, before: State, peer: &Peer)
+    /// ([`Acquaintance::meet_if_opened_by_event`]). It takes no memory.
+    pub(crate) fn meet_if_opened_by_event(&mut self, index: usize, before: State, peer: &Peer)
         ensures { known_of self.new ≡ with_known index (known_after before peer.now) (known_of self.old) }
     {
         if index < self.places.len() {
-            meet_by_event_if_any(&mut self.places[index], before, peer);
+            meet_any_if_opened_by_event(&mut self.places[index], before, peer);
         }
     }
 }

@@ -12,7 +12,7 @@ use crate::settling::settle_connections;
 use crate::telling::tell_message;
 use crate::{Answer, Node, Strangers, Told};
 use dm_machine::Conn;
-use dm_slots::laws::{taking_back_undoes_feeding, whole_messages_are_taken_whole};
+use dm_slots::laws::{feed_front_takes_whole_message_len, taking_back_undoes_feeding};
 use std::alloc::{AllocError, Global};
 
 impl Node {
@@ -56,7 +56,7 @@ impl Node {
         // Behind an `Err` nothing is asked for.
         ensures cleared { OnErr result (IsUntold answer.new) }
     {
-        whole_messages_are_taken_whole();
+        feed_front_takes_whole_message_len();
         answer.clear();
         match self.intakes.whole_message_len(conn, piece) {
             Some(size) => match tell_message(

@@ -37,7 +37,7 @@ pub(crate) fn copy_exchange_and_reserve_place(
 
 /// Changes what is known of the neighbour that was told what came on the connection: `who`, if one was. What is known
 /// of one that was open before stays.
-pub(crate) fn meet_by_message(
+pub(crate) fn meet_if_opened_by_message(
     neighbours: &Neighbours,
     known: &mut Acquaintances,
     who: Option<usize>,
@@ -58,14 +58,14 @@ pub(crate) fn meet_by_message(
     if let Some(index) = who {
         known.push_place_if_missing(index);
         if let Some(peer) = neighbours.peer(index) {
-            known.meet_by_message(index, exchange, conn, before, peer);
+            known.meet_if_opened_by_message(index, exchange, conn, before, peer);
         }
     }
 }
 
 /// Changes what is known of the neighbour that was told an event that brought no message: `who`, if one was. What is
 /// known of one that was open before stays.
-pub(crate) fn meet_by_event(
+pub(crate) fn meet_if_opened_by_event(
     neighbours: &Neighbours,
     known: &mut Acquaintances,
     who: Option<usize>,
@@ -78,7 +78,7 @@ pub(crate) fn meet_by_event(
     if !before.is_open() {
         if let Some(index) = who {
             if let Some(peer) = neighbours.peer(index) {
-                known.meet_by_event(index, before, peer);
+                known.meet_if_opened_by_event(index, before, peer);
             }
         }
     }

@@ -17,7 +17,7 @@ ghost use Rattle.dm_node.specs.NodeSeen.{node_state_of, node_known_of};
 ghost use Rattle.dm_node.specs.NodeStates.{with_node_peers};
 
 use crate::acquaintances::Acquaintances;
-use crate::neighbours::{Neighbours, neighbours_are_sound};
+use crate::neighbours::{Neighbours, neighbours_are_apart_and_settled};
 use crate::owners::Holding;
 use crate::{AddFault, Answer, Node};
 use dm_machine::Conn;
@@ -133,11 +133,11 @@ impl Node {
         ensures without { node_state_of self.new ≡ node_without index (node_state_of self.old) }
         ensures forgotten { node_known_of self.new ≡ without_known (node_known_of self.old) index }
     {
-        neighbours_are_sound(&self.neighbours);
+        neighbours_are_apart_and_settled(&self.neighbours);
         answer.clear();
         let held = self.neighbours.held_connections(index);
         let gone = self.neighbours.remove(index);
-        self.known.forget(index);
+        self.known.vacate_place(index);
         shut_held(&mut self.intakes, held);
         push_close_if_any(&mut answer.actions, held.initiated);
         push_close_if_any(&mut answer.actions, held.accepted);
@@ -150,19 +150,20 @@ impl Node {
         }
     }
 
-    /// The neighbour of the number is Closed, and what it held is no more there. It never answers want of memory.
-    pub(crate) fn reset_neighbour(&mut self, index: usize)
+    /// The neighbour of the number is Closed, and what it held is no more there; whom it met stays. It never answers
+    /// want of memory.
+    pub(crate) fn reset_peer_and_shut_held(&mut self, index: usize)
         ensures back { node_state_of self.new ≡ node_set_back index (node_state_of self.old) }
         ensures known { node_known_of self.new ≡ node_known_of self.old }
     {
-        neighbours_are_sound(&self.neighbours);
+        neighbours_are_apart_and_settled(&self.neighbours);
         let held = self.neighbours.held_connections(index);
         self.neighbours.reset_neighbour(index);
         shut_held(&mut self.intakes, held);
     }
 
-    /// Each neighbour is Closed, and no connection is there. It never answers want of memory.
-    pub(crate) fn reset_all_neighbours(&mut self)
+    /// Each neighbour is Closed, and no connection is there; whom they met stays. It never answers want of memory.
+    pub(crate) fn reset_peers_and_shut_all(&mut self)
         ensures back { node_state_of self.new ≡ node_closed (node_state_of self.old) }
         ensures known { node_known_of self.new ≡ node_known_of self.old }
     {

@@ -8,7 +8,7 @@ use crate::hosts::Hosts;
 use crate::owners::{Holding, Snapshot, held_connections_if_any};
 use crate::peer_by_number::peer_at;
 use crate::removal_and_reset::{reset_all_peers, reset_one_peer, take_peer_out};
-use crate::reserved_place::reserve_place_and_note_host;
+use crate::reserved_place::reserve_place_and_note_new_host;
 use dm_peer::laws::{
     each_event_keeps_peers_settled, each_send_spells_a_message,
     every_peer_is_settled_with_fitting_numbers,
@@ -85,7 +85,7 @@ impl Neighbours {
     {
         every_peer_is_settled_with_fitting_numbers(&peer);
         let index = self.peers.len();
-        match reserve_place_and_note_host(&mut self.peers, &mut self.hosts, peer.config()) {
+        match reserve_place_and_note_new_host(&mut self.peers, &mut self.hosts, peer.config()) {
             Ok(()) => {
                 self.peers.push_reserved(Some(peer));
                 self.present = count_after_adding(&self.peers, self.present);
@@ -226,7 +226,7 @@ impl Neighbours {
 
 /// No connection is held by two neighbours, no two have one host, upper and lower case taken as one, and each is what
 /// events make of a new peer; whatever the node was told.
-pub(crate) fn neighbours_are_sound(neighbours: &Neighbours)
+pub(crate) fn neighbours_are_apart_and_settled(neighbours: &Neighbours)
     ensures apart { IsNeighbourhood neighbours.now }
     ensures kept { AreKept neighbours.now }
 {

@@ -146,14 +146,14 @@ impl Node {
     }
 
     /// The connection is there from now on.
-    pub(crate) fn open(&mut self, alloc: Global, conn: Conn) -> Result<(), AllocError>
+    pub(crate) fn open_unless_there(&mut self, alloc: Global, conn: Conn) -> Result<(), AllocError>
         ensures opened { OnOk result (node_state_of self.new ≡ node_opened conn (node_state_of self.old)) }
         ensures unchanged { OnErr result (node_state_of self.new ≡ node_state_of self.old) }
         ensures memory { OnErr result (is_there conn.0 (node_state_of self.old).intakes ≡ false) }
         ensures known { node_known_of self.new ≡ node_known_of self.old }
     {
         connections_stay_until_closed();
-        match self.intakes.open(alloc, conn, self.first_max) {
+        match self.intakes.open_unless_there(alloc, conn, self.first_max) {
             Ok(()) => Ok(()),
             Err(error) => Err(error),
         }
@@ -194,7 +194,7 @@ impl Node {
         ensures known { node_known_of self.new ≡ node_known_of self.old }
     {
         connections_stay_until_closed();
-        self.intakes.feed_front(conn, piece)
+        self.intakes.feed_front_or_discard(conn, piece)
     }
 
     /// Takes so many of the octets away again that came last on the connection. It never answers want of memory.
@@ -241,7 +241,7 @@ impl Node {
             answer,
         ) {
             Ok(before) => {
-                self.intakes.discard_behind_fault(alloc, conn);
+                self.intakes.discard_rest_of_stream(alloc, conn);
                 settle_connections(
                     &self.neighbours,
                     &mut self.intakes,

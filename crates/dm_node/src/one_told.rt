@@ -14,9 +14,9 @@ ghost use Rattle.dm_peer.specs.declared.fault.PeerFault.{PeerFault};
 ghost use Rattle.dm_peer.specs.declared.fault.PeerFault.TheVariants as peer_faults;
 
 use crate::events::peer_event;
-use crate::neighbours::{Neighbours, neighbours_are_sound};
+use crate::neighbours::{Neighbours, neighbours_are_apart_and_settled};
 use crate::{Answer, NodeEvent, OrderFault};
-use dm_machine::laws::ceas_open_and_what_is_given_up_is_closed;
+use dm_machine::laws::given_up_is_closed_others_left_alone;
 use dm_peer::laws::{done_events_are_steps_or_drops, every_peer_is_settled_with_fitting_numbers};
 use dm_peer::{Actions, Event, Peer, PeerFault};
 use std::alloc::Global;
@@ -47,7 +47,7 @@ fn tell_peer_at(
         → IsRoster peers.new.items hosts count }
 {
     done_events_are_steps_or_drops();
-    ceas_open_and_what_is_given_up_is_closed();
+    given_up_is_closed_others_left_alone();
     match &mut peers[index] {
         Some(peer) => {
             let _state = peer.state();
@@ -92,7 +92,7 @@ pub(crate) fn tell_one_neighbour(
         told,
         &mut answer.actions,
     );
-    neighbours_are_sound(neighbours);
+    neighbours_are_apart_and_settled(neighbours);
     match done {
         Ok(()) => {
             answer.neighbour = Some(index);

@@ -11,8 +11,8 @@ use crate::hosts::Hosts;
 use dm_peer::{Config, Peer};
 
 /// Makes room for a neighbour of this configuration, and notes its number for its host. `Known` where a neighbour has
-/// that host, else `NoMemory`: nothing is noted then.
-pub(crate) fn reserve_place_and_note_host(
+/// that host already, else `NoMemory`: nothing is noted then.
+pub(crate) fn reserve_place_and_note_new_host(
     peers: &mut Vec<Option<Peer>>,
     hosts: &mut Hosts,
     config: &Config,

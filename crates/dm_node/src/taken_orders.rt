@@ -22,12 +22,12 @@ ghost use Rattle.std.specs.Option.{option_map};
 ghost use Rattle.dm_node.specs.NodeSeen.{node_state_of, node_known_of};
 ghost use Rattle.dm_node.specs.Answers.{IsUntold, asks_of};
 
-use crate::neighbours::neighbours_are_sound;
+use crate::neighbours::neighbours_are_apart_and_settled;
 use crate::settling::settle_connections;
 use crate::telling::tell_event;
 use crate::{Answer, Node, NodeEvent, Order, OrderFault, Told};
 use dm_machine::{Conn, State};
-use dm_peer::laws::{only_named_connections_become_held, refusals_go_by_rule};
+use dm_peer::laws::{event_refusals_go_by_rule, events_take_named_release_closed_connections};
 use dm_peer::{Peer, PeerFault};
 use dm_slots::laws::connections_stay_until_closed;
 use std::alloc::Global;
@@ -121,10 +121,12 @@ impl Node {
         ensures spelled { OnOk result (All SendsSpelling answer.new.actions.items) }
     {
         match order {
-            Order::Start(index, conn) => self.open_and_tell_start(alloc, index, conn, answer),
+            Order::Start(index, conn) => {
+                self.open_and_start_unless_there(alloc, index, conn, answer)
+            }
             Order::Ack(conn) => self.tell_event_if_there(alloc, conn, NodeEvent::Ack(conn), answer),
             Order::Nack(conn) => self.tell_nack_and_shut_unheld(alloc, conn, answer),
-            Order::Accept(conn) => match self.open(alloc, conn) {
+            Order::Accept(conn) => match self.open_unless_there(alloc, conn) {
                 Ok(()) => Ok(()),
                 Err(_) => Err(OrderFault::Peer(PeerFault::NoMemory)),
             },
@@ -142,11 +144,11 @@ impl Node {
                 self.tell_order_event(alloc, NodeEvent::Submit(index, octets), answer)
             }
             Order::Reset(index) => {
-                self.reset_neighbour(index);
+                self.reset_peer_and_shut_held(index);
                 Ok(())
             }
             Order::ResetAll => {
-                self.reset_all_neighbours();
+                self.reset_peers_and_shut_all();
                 Ok(())
             }
         }
@@ -201,7 +203,8 @@ impl Node {
         }
     }
 
-    /// Tells an event of the connection, which names no other. Nothing is told where the connection isn't there.
+    /// Tells an event of the connection, which names no other. Where the connection isn't there nothing is told, and
+    /// that is no fault.
     fn tell_event_if_there(
         &mut self,
         alloc: Global,
@@ -298,8 +301,8 @@ impl Node {
             → ToldTakesMemory (told_there conn (Gone conn) (node_state_of self.old)) (node_state_of self.old) }
         ensures spelled { OnOk result (All SendsSpelling answer.new.actions.items) }
     {
-        only_named_connections_become_held();
-        neighbours_are_sound(&self.neighbours);
+        events_take_named_release_closed_connections();
+        neighbours_are_apart_and_settled(&self.neighbours);
         match self.tell_event_if_there(alloc, conn, NodeEvent::Gone(conn), answer) {
             Ok(()) => {
                 self.shut(conn);
@@ -310,23 +313,24 @@ impl Node {
     }
 
     /// Why the rules refuse a Start of the connection, if they do: nobody has the number, or the neighbour isn't
-    /// Closed.
-    fn start_fault(&self, index: usize, conn: Conn) -> Option<OrderFault>
+    /// Closed. Whether the connection is there isn't asked.
+    fn neighbour_start_fault(&self, index: usize, conn: Conn) -> Option<OrderFault>
         ensures declined { IfSome result (IsDeclinedHere no_strangers (node_state_of self.now).peers
             (Start index conn)) }
         ensures rule { IfSome result (IsRuleOf no_strangers (node_state_of self.now).peers (Start index conn)) }
         ensures none { IfNone result (IsUnruled no_strangers (node_state_of self.now).peers (Start index conn)) }
     {
-        refusals_go_by_rule();
-        neighbours_are_sound(&self.neighbours);
+        event_refusals_go_by_rule();
+        neighbours_are_apart_and_settled(&self.neighbours);
         match self.neighbours.peer(index) {
             Some(peer) => peer_start_fault(peer),
             None => Some(OrderFault::NoNeighbour),
         }
     }
 
-    /// Tells a Start of the connection to the neighbour of the number, and the connection is there from then on.
-    fn open_and_tell_start(
+    /// Tells a Start of the connection to the neighbour of the number, and the connection is there from then on. Where
+    /// it is there already nothing is told, and that is no fault.
+    fn open_and_start_unless_there(
         &mut self,
         alloc: Global,
         index: usize,
@@ -353,10 +357,10 @@ impl Node {
         if self.has(conn) {
             return Ok(());
         }
-        if let Some(fault) = self.start_fault(index, conn) {
+        if let Some(fault) = self.neighbour_start_fault(index, conn) {
             return Err(fault);
         }
-        match self.open(alloc, conn) {
+        match self.open_unless_there(alloc, conn) {
             Ok(()) => match self.tell_order_event(alloc, NodeEvent::Start(index, conn), answer) {
                 Ok(()) => Ok(()),
                 Err(fault) => {

@@ -18,8 +18,10 @@ ghost use Rattle.dm_slots.specs.Intakes.{Intakes as AllIntakes, actions_close};
 ghost use Rattle.dm_slots.specs.Naming.{NamesThere};
 
 use crate::acquaintances::Acquaintances;
-use crate::meeting::{copy_exchange_and_reserve_place, meet_by_event, meet_by_message};
-use crate::neighbours::{Neighbours, neighbours_are_sound};
+use crate::meeting::{
+    copy_exchange_and_reserve_place, meet_if_opened_by_event, meet_if_opened_by_message,
+};
+use crate::neighbours::{Neighbours, neighbours_are_apart_and_settled};
 use crate::one_told::tell_one_neighbour;
 use crate::owners::Holding;
 use crate::routing::concerned_neighbour;
@@ -27,10 +29,10 @@ use crate::stranger_events::handle_stranger_event;
 use crate::{Answer, NodeEvent, OrderFault, Strangers};
 use dm_base::Node;
 use dm_machine::Conn;
-use dm_machine::laws::ceas_open_and_what_is_given_up_is_closed;
+use dm_machine::laws::given_up_is_closed_others_left_alone;
 use dm_peer::laws::{
-    done_events_are_steps_or_drops, each_event_keeps_peers_settled,
-    only_named_connections_become_held, refusals_go_by_rule,
+    done_events_are_steps_or_drops, each_event_keeps_peers_settled, event_refusals_go_by_rule,
+    events_take_named_release_closed_connections,
 };
 use dm_slots::Slots;
 use std::alloc::{AllocError, Global};
@@ -56,7 +58,7 @@ fn tell_one_or_handle_stranger<S: Strangers>(
     ensures unchanged { OnErr result (neighbours.new ≡ neighbours.old) }
     ensures spelled { OnOk result (All SendsSpelling answer.new.actions.items) }
 {
-    neighbours_are_sound(neighbours);
+    neighbours_are_apart_and_settled(neighbours);
     match who {
         Some(index) => tell_one_neighbour(alloc, neighbours, index, event, answer),
         None => handle_stranger_event(alloc, own, neighbours, strangers, event, answer),
@@ -64,7 +66,8 @@ fn tell_one_or_handle_stranger<S: Strangers>(
 }
 
 /// Tells the event to the neighbour that it concerns, `who`, or handles it as a stranger's where it concerns none, by
-/// the policy for strangers, and puts what it comes to into `answer`, whose actions are none before.
+/// the policy for strangers, and puts what it comes to into `answer`, whose actions are none before: what
+/// [`tell_one_or_handle_stranger`] does, of which this says more.
 #[inline(always)]
 fn tell_neighbour_or_handle_stranger<S: Strangers>(
     alloc: Global,
@@ -94,10 +97,10 @@ fn tell_neighbour_or_handle_stranger<S: Strangers>(
 {
     done_events_are_steps_or_drops();
     each_event_keeps_peers_settled();
-    only_named_connections_become_held();
-    ceas_open_and_what_is_given_up_is_closed();
-    refusals_go_by_rule();
-    neighbours_are_sound(neighbours);
+    events_take_named_release_closed_connections();
+    given_up_is_closed_others_left_alone();
+    event_refusals_go_by_rule();
+    neighbours_are_apart_and_settled(neighbours);
     match tell_one_or_handle_stranger(alloc, own, neighbours, strangers, who, event, answer) {
         Ok(()) => Ok(()),
         Err(fault) => Err(fault),
@@ -137,7 +140,7 @@ pub(crate) fn tell_message<S: Strangers>(
     ensures unchanged { OnErr result (neighbours.new ≡ neighbours.old) }
     ensures same { OnErr result (known_of known.new ≡ known_of known.old) }
 {
-    neighbours_are_sound(neighbours);
+    neighbours_are_apart_and_settled(neighbours);
     let event = NodeEvent::Arrived(conn, octets);
     let who = match concerned_neighbour(neighbours, slots, strangers, event) {
         Ok(who) => who,
@@ -150,7 +153,7 @@ pub(crate) fn tell_message<S: Strangers>(
     };
     match tell_neighbour_or_handle_stranger(alloc, own, neighbours, strangers, who, event, answer) {
         Ok(()) => {
-            meet_by_message(
+            meet_if_opened_by_message(
                 neighbours,
                 known,
                 answer.neighbour,
@@ -203,8 +206,8 @@ pub(crate) fn tell_event<S: Strangers>(
     ensures unchanged { OnErr result (neighbours.new ≡ neighbours.old) }
     ensures same { OnErr result (known_of known.new ≡ known_of known.old) }
 {
-    refusals_go_by_rule();
-    neighbours_are_sound(neighbours);
+    event_refusals_go_by_rule();
+    neighbours_are_apart_and_settled(neighbours);
     let who = match concerned_neighbour(neighbours, slots, strangers, event) {
         Ok(who) => who,
         Err(fault) => return Err(fault),
@@ -212,7 +215,7 @@ pub(crate) fn tell_event<S: Strangers>(
     let before = neighbours.snapshot(who);
     match tell_neighbour_or_handle_stranger(alloc, own, neighbours, strangers, who, event, answer) {
         Ok(()) => {
-            meet_by_event(neighbours, known, answer.neighbour, before.state);
+            meet_if_opened_by_event(neighbours, known, answer.neighbour, before.state);
             Ok(before.held)
         }
         Err(fault) => Err(fault),

@@ -11,13 +11,14 @@ ghost use Rattle.dm_octet_peers.specs.Frames.{OctetsAreFrames};
 ghost use Rattle.dm_octet_peers.specs.Octets.{octet_peers};
 
 use dm_base::laws::{
-    applications_are_common_by_shared_id_or_relay, built_messages_are_good,
-    octets_spell_built_messages,
+    applications_are_common_by_shared_id_or_relay, built_messages_are_good_and_as_meant,
+    built_messages_have_spellings,
 };
 use dm_machine::laws::{
-    each_connection_changes_as_allowed, each_order_is_a_command, each_step_keeps_shape,
-    few_steps_stand_for_all, open_connections_carry_user_messages, shaped_nodes_have_eight_forms,
-    what_unread_messages_say_makes_no_difference,
+    connection_changes_and_orders_are_allowed, connection_orders_are_its_commands,
+    few_steps_stand_for_all, messages_do_the_same_where_unread,
+    open_connections_carry_user_messages, shaped_nodes_have_eight_forms,
+    steps_keep_shape_in_few_commands,
 };
 use dm_peer::laws::{
     done_events_are_steps_or_drops, events_are_steps_drops_or_refusals,
@@ -25,15 +26,15 @@ use dm_peer::laws::{
 };
 use dm_peer::{Config, Peer};
 use dm_two_peers::laws::{
-    closed_peers_make_a_sound_world, each_clean_run_can_fall_quiet, each_clean_run_falls_quiet,
-    each_clean_run_keeps_its_course, each_happening_keeps_worlds_sound,
+    clean_runs_can_settle_as_elected, clean_runs_fall_quiet, clean_runs_settle_as_elected,
+    closed_peers_make_a_sound_world, each_happening_keeps_worlds_sound,
     each_quiet_run_is_closed_or_open, each_run_delivers_in_order, each_run_hands_up_only_arrivals,
     each_world_can_restart_and_open, quiet_peers_are_closed_or_joined,
     winners_never_enter_wait_returns,
 };
 use dm_wire::laws::{
-    canonical_octets_spell_message, message_in_octets_is_what_they_spell, spelled_message_is_found,
-    spelled_messages_are_frames,
+    canonical_octets_spell_message, message_in_octets_is_what_they_spell,
+    spelled_and_canonical_messages_are_frames, spelled_message_is_found,
 };
 use dm_wire::{Header, Octets};
 
@@ -46,22 +47,22 @@ pub fn octet_peers_move_as_the_machine()
 
 /// Of two peers that are configured for each other and have an application in common one wins the election, and each
 /// reads the other's CER and CEA as good ones (RFC 6733, 5.3 and 5.6.4).
-pub fn paired_octet_peers_elect_one()
+pub fn paired_octet_peers_hear_and_elect()
     ensures { OctetsAreElecting }
 {
     applications_are_common_by_shared_id_or_relay();
     few_steps_stand_for_all();
-    each_step_keeps_shape();
+    steps_keep_shape_in_few_commands();
     requests_and_successes_are_heard_as_good();
 }
 
 /// Two new peers that are configured for each other are peers as these laws ask for them, and whatever happens keeps it
 /// so.
-pub fn each_happening_keeps_peers_paired()
+pub fn octet_peers_begin_and_stay_paired()
     ensures fresh { FreshArePeers }
     ensures kept { HappeningKeepsPeers }
 {
-    each_step_keeps_shape();
+    steps_keep_shape_in_few_commands();
     winners_never_enter_wait_returns();
 }
 
@@ -75,9 +76,9 @@ pub fn octet_peers_send_no_empty_message()
 pub fn every_message_sent_is_a_frame()
     ensures { OctetsAreFrames }
 {
-    octets_spell_built_messages();
+    built_messages_have_spellings();
     message_in_octets_is_what_they_spell();
-    spelled_messages_are_frames();
+    spelled_and_canonical_messages_are_frames();
 }
 
 /// What each clean run (of Starts, Acks, deliveries and pieces alone) comes to of two closed peers that are configured
@@ -85,32 +86,32 @@ pub fn every_message_sent_is_a_frame()
 /// connection that a taken Start made, from its opener; where both sides started, the winner's disconnect of its own;
 /// the CEA on the connection that the election keeps; and the disconnect that answers the winner's. Where a Start is
 /// taken and it falls quiet, all of it was put in, and both are open on that connection (5.6.4).
-pub fn each_clean_octet_run_keeps_its_course()
+pub fn clean_octet_runs_settle_as_elected()
     ensures { EachOctetRunSettles }
 {
-    each_clean_run_keeps_its_course::<Peer, Octets, Config, Header>();
-    paired_octet_peers_elect_one();
+    clean_runs_settle_as_elected::<Peer, Octets, Config, Header>();
+    paired_octet_peers_hear_and_elect();
 }
 
 /// A clean run (of Starts, Acks, deliveries and pieces alone) of two closed peers that are configured for each other,
 /// from where nothing is under way, falls quiet, in whatever order things come: it is quiet where no Ack and no
 /// delivery is done any more, after nine steps, and where one side alone starts after four. A piece that ends no
 /// message is no step.
-pub fn each_clean_octet_run_falls_quiet()
+pub fn clean_octet_runs_fall_quiet()
     ensures { EachOctetRunFallsQuiet }
 {
-    each_clean_run_falls_quiet::<Peer, Octets, Config, Header>();
-    paired_octet_peers_elect_one();
+    clean_runs_fall_quiet::<Peer, Octets, Config, Header>();
+    paired_octet_peers_hear_and_elect();
 }
 
 /// A clean run (of Starts, Acks, deliveries and pieces alone) of two closed peers that are configured for each other,
 /// from where nothing is under way, can fall quiet: after some Acks and deliveries, with its own steps nine at most,
-/// nothing is under way, and both are open on the connection that the election keeps (5.6.4).
-pub fn each_clean_octet_run_can_fall_quiet()
+/// nothing is under way, and where a Start was taken both are open on the connection that the election keeps (5.6.4).
+pub fn clean_octet_runs_can_settle_as_elected()
     ensures { EachOctetRunCanFallQuiet }
 {
-    each_clean_run_can_fall_quiet::<Peer, Octets, Config, Header>();
-    paired_octet_peers_elect_one();
+    clean_runs_can_settle_as_elected::<Peer, Octets, Config, Header>();
+    paired_octet_peers_hear_and_elect();
 }
 
 /// From each sound world of two peers that are configured for each other, whatever happened before, both sides can
@@ -121,7 +122,7 @@ pub fn each_octet_world_can_restart_and_open()
 {
     each_world_can_restart_and_open::<Peer, Octets, Config, Header>();
     octet_peers_move_as_the_machine();
-    paired_octet_peers_elect_one();
+    paired_octet_peers_hear_and_elect();
 }
 
 /// After any list of happenings to two new peers that are configured for each other both sides can restart, and after
@@ -132,7 +133,7 @@ pub fn each_octet_run_can_restart_and_open()
 {
     closed_peers_make_a_sound_world::<Peer, Octets>();
     each_happening_keeps_worlds_sound::<Peer, Octets>();
-    each_happening_keeps_peers_paired();
+    octet_peers_begin_and_stay_paired();
     each_octet_world_can_restart_and_open();
     octet_peers_move_as_the_machine();
 }
@@ -144,7 +145,7 @@ pub fn quiet_octet_peers_are_closed_or_joined()
     ensures { OctetQuietIsJoined }
 {
     quiet_peers_are_closed_or_joined::<Peer, Octets>();
-    paired_octet_peers_elect_one();
+    paired_octet_peers_hear_and_elect();
 }
 
 /// Wherever a run of two new peers that are configured for each other falls quiet, whatever was lost and restarted,
@@ -155,7 +156,7 @@ pub fn each_octet_quiet_run_is_closed_or_joined()
 {
     closed_peers_make_a_sound_world::<Peer, Octets>();
     each_happening_keeps_worlds_sound::<Peer, Octets>();
-    each_happening_keeps_peers_paired();
+    octet_peers_begin_and_stay_paired();
     quiet_octet_peers_are_closed_or_joined();
     octet_peers_move_as_the_machine();
 }
@@ -163,20 +164,20 @@ pub fn each_octet_quiet_run_is_closed_or_joined()
 /// Peers over octets match an answer with its request by the Hop-by-Hop Identifier, at the exchanges that open and end
 /// a connection: a CER is answered by the CEA of its number, and a DPR by the DPA of its number, whatever came in
 /// between, and neither is dropped by the peer that awaits it (3, 5.3, 5.4 and 6.2.1).
-pub fn octet_peers_match_ceas_and_dpas()
+pub fn ceas_and_dpas_match_their_requests()
     ensures { OctetAnswersMatch }
 {
-    built_messages_are_good();
-    octets_spell_built_messages();
+    built_messages_are_good_and_as_meant();
+    built_messages_have_spellings();
     canonical_octets_spell_message();
-    each_connection_changes_as_allowed();
+    connection_changes_and_orders_are_allowed();
     events_are_steps_drops_or_refusals();
     shaped_nodes_have_eight_forms();
-    each_order_is_a_command();
+    connection_orders_are_its_commands();
     few_steps_stand_for_all();
-    each_step_keeps_shape();
+    steps_keep_shape_in_few_commands();
     spelled_message_is_found();
-    what_unread_messages_say_makes_no_difference();
+    messages_do_the_same_where_unread();
 }
 
 /// Wherever a run of two new peers that are configured for each other falls quiet, whatever was lost and restarted,
@@ -186,11 +187,11 @@ pub fn each_octet_quiet_run_is_closed_or_open()
 {
     closed_peers_make_a_sound_world::<Peer, Octets>();
     each_happening_keeps_worlds_sound::<Peer, Octets>();
-    each_happening_keeps_peers_paired();
+    octet_peers_begin_and_stay_paired();
     each_quiet_run_is_closed_or_open::<Peer, Octets>();
-    octet_peers_match_ceas_and_dpas();
+    ceas_and_dpas_match_their_requests();
     octet_peers_move_as_the_machine();
-    paired_octet_peers_elect_one();
+    paired_octet_peers_hear_and_elect();
 }
 
 /// Peers over octets carry messages of applications: what is submitted in an open state is sent as it is, no other
@@ -198,7 +199,7 @@ pub fn each_octet_quiet_run_is_closed_or_open()
 pub fn octet_peers_carry_user_messages()
     ensures { OctetsCarry }
 {
-    each_connection_changes_as_allowed();
+    connection_changes_and_orders_are_allowed();
     shaped_nodes_have_eight_forms();
     few_steps_stand_for_all();
     open_connections_carry_user_messages();

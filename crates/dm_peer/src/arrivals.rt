@@ -84,7 +84,7 @@ pub(crate) fn leaves_octets_unread(state: State, footing: Footing) -> bool
 }
 
 /// Whether an answer of this header is one that nothing awaits.
-fn is_unawaited_answer(awaited: &Awaited, header: &Header) -> bool
+fn is_unawaited_base_answer(awaited: &Awaited, header: &Header) -> bool
     ensures { result ≡ is_unawaited awaited.now header.now }
 {
     if header.request || !is_base_command(header.command) {
@@ -94,11 +94,11 @@ fn is_unawaited_answer(awaited: &Awaited, header: &Header) -> bool
 }
 
 /// Whether a message of this header is dropped on a connection that stands so.
-pub(crate) fn is_message_dropped(awaited: &Awaited, footing: Footing, header: &Header) -> bool
+pub(crate) fn is_answer_dropped(awaited: &Awaited, footing: Footing, header: &Header) -> bool
     ensures { result ≡ (has_made footing && is_unawaited awaited.now header.now) }
 {
     match footing {
-        Footing::Made => is_unawaited_answer(awaited, header),
+        Footing::Made => is_unawaited_base_answer(awaited, header),
         Footing::New | Footing::Unmade => false,
     }
 }

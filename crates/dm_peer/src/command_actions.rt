@@ -5,51 +5,19 @@ ghost use Rattle.std.specs.List.{list_any};
 ghost use Rattle.arrayvec.specs.ArrayVec.{array_vec_len};
 ghost use Rattle.dm_peer.specs.Events.{event_told, octets_in, cause_in};
 ghost use Rattle.dm_peer.specs.Lent.{heard_by};
-ghost use Rattle.dm_peer.specs.Sent.{
-  sent,
-  refusal,
-  header_of,
-  fault_in,
-  cer_answered,
-  action_of,
-  actions_of,
-  takes_memory,
-};
+ghost use Rattle.dm_peer.specs.Sent.{cer_answered, action_of, actions_of, takes_memory};
 
-use crate::heard_message::{HeardRef, fault_of_heard, header_heard_or_zeros};
+use crate::heard_message::{HeardRef, header_heard_or_zeros};
 use crate::sending::{
-    push_send, push_send_cer, push_send_dpr, push_send_dwr, push_send_success_cea,
-    push_send_success_dwa_or_dpa, refusing_answer,
+    push_send_cer, push_send_dpr, push_send_dwr, push_send_refusal, push_send_success_cea,
+    push_send_success_dwa_or_dpa,
 };
 use crate::{Action, Actions, Event, Peer};
-use dm_base::{Cause, Node};
-use dm_dict::{NoMemory, Verdict};
-use dm_machine::{Command, Conn};
+use dm_base::Cause;
+use dm_dict::NoMemory;
+use dm_machine::Command;
 use dm_wire::{Header, Octets};
 use std::alloc::Global;
-
-/// Appends the sending of the answer that refuses what was heard; or want of memory.
-#[inline(never)]
-fn push_send_refusal(
-    alloc: Global,
-    conn: Conn,
-    node: &Node,
-    heard: Option<&HeardRef<'_>>,
-    actions: &mut Actions,
-) -> Result<(), NoMemory>
-    requires { array_vec_len actions.old < 4 }
-    ensures { OnOk result (actions.new.items ≡ actions.old.items
-        ++ sent conn (refusal node.now (header_of (heard_by heard.entry)) (fault_in (heard_by heard.entry))) ∷ []) }
-{
-    let to = header_heard_or_zeros(heard);
-    match fault_of_heard(heard).verdict(alloc)? {
-        Verdict::Bad { code, failed } => {
-            let message = refusing_answer(alloc, node, &to, code, failed.as_ref())?;
-            push_send(alloc, conn, message, actions)
-        }
-        Verdict::Good => unreachable!(),
-    }
-}
 
 /// The CER that a CEA answers: the one that waits, else the one just heard.
 fn answered_cer_header(waiting: Option<Header>, heard: Option<&HeardRef<'_>>) -> Header
@@ -72,7 +40,7 @@ fn copied_event_octets(alloc: Global, event: Event<'_>) -> Result<Octets, NoMemo
     Ok(Octets::from_slice(alloc, octets)?)
 }
 
-/// The cause of a Stop, which alone has one.
+/// The cause of a Stop, which alone has one; Rebooting for any other event.
 fn stop_cause(event: Event<'_>) -> Cause
     ensures { result ≡ cause_in (event_told event.entry) }
 {

@@ -41,7 +41,7 @@ pub fn is_same_host(one: &[u8], other: &[u8]) -> bool
 }
 
 /// Why a node of this host can't have this peer; None where it can.
-fn fault_of_hosts(host: &[u8], peer: &[u8]) -> Option<ConfigFault>
+fn fault_of_peer_host(host: &[u8], peer: &[u8]) -> Option<ConfigFault>
     ensures { result ≡ config_fault host.now peer.now }
 {
     if !is_name(peer) {
@@ -77,7 +77,7 @@ impl Config {
         ensures dictionary { IfOk result (λ config. config.dictionary ≡ base_definitions) }
         ensures compares { IfOk result (λ config. config.compares ≡ false) }
     {
-        if let Some(fault) = fault_of_hosts(node.host(), peer.as_slice()) {
+        if let Some(fault) = fault_of_peer_host(node.host(), peer.as_slice()) {
             return Err(fault);
         }
         match Shared::base(alloc) {
@@ -121,10 +121,10 @@ impl Config {
         ensures dictionary { IfOk result (λ config. config.dictionary ≡ base_definitions) }
         ensures compares { IfOk result (λ config. config.compares ≡ self.now.compares) }
     {
-        if let Some(fault) = fault_of_hosts(self.node.host(), host) {
+        if let Some(fault) = fault_of_peer_host(self.node.host(), host) {
             return Err(fault);
         }
-        match self.copy_for_host(alloc, host) {
+        match self.copy_with_peer_host(alloc, host) {
             Ok(config) => Ok(config),
             Err(_) => Err(ConfigFault::NoMemory),
         }
@@ -145,7 +145,7 @@ impl Config {
         ensures dictionary { IfOk result (λ config. config.dictionary ≡ base_definitions) }
         ensures compares { IfOk result (λ config. config.compares ≡ false) }
     {
-        if let Some(fault) = fault_of_hosts(node.host(), peer.as_slice()) {
+        if let Some(fault) = fault_of_peer_host(node.host(), peer.as_slice()) {
             return Err(fault);
         }
         let Ok(dictionary) = self.dictionary.clone() else {
@@ -161,7 +161,7 @@ impl Config {
     }
 
     /// A copy whose peer is this host, which can be its peer; or want of memory.
-    fn copy_for_host(&self, alloc: Global, host: &[u8]) -> Result<Config, AllocError>
+    fn copy_with_peer_host(&self, alloc: Global, host: &[u8]) -> Result<Config, AllocError>
         requires name { is_name host.now ≡ true }
         requires other { is_same_host self.now.node.host host.now ≡ false }
         ensures node { IfOk result (λ config. config.node ≡ self.now.node) }

@@ -107,8 +107,8 @@ fn accept_or_refuse_cer<'a>(config: &Config, header: &'a Header, caps: &CapsRef<
     }
 }
 
-/// The word of a CEA of this Result-Code.
-fn word_of_cea_code(code: u32) -> Word
+/// The word of a CEA of this Result-Code, by its class alone: each of 2000 to 2999 opens (RFC 6733, 7.1).
+fn word_of_cea_code_class(code: u32) -> Word
     ensures { result ≡ word_of_code code }
 {
     if code >= 2000 && code <= 2999 {
@@ -146,7 +146,7 @@ fn word_of_cea(config: &Config, message: &MessageRef<'_>, code: u32) -> Word
     if fails_host_comparison(config, message) {
         Word::CeaFailed
     } else {
-        word_of_cea_code(code)
+        word_of_cea_code_class(code)
     }
 }
 
@@ -195,7 +195,7 @@ pub(crate) fn hear_message<'a>(
 }
 
 /// The word of what was heard; `Unreadable` where no message was.
-pub(crate) fn word_heard(heard: Option<&HeardRef<'_>>) -> Word
+pub(crate) fn word_heard_or_unreadable(heard: Option<&HeardRef<'_>>) -> Word
     ensures { result ≡ word_heard (heard_by heard.entry) }
 {
     match heard {
@@ -234,7 +234,7 @@ pub(crate) fn header_heard_or_zeros(heard: Option<&HeardRef<'_>>) -> Header
 }
 
 /// Why what was heard is refused, where it lies. A refusal without a fault, of which there is none, would have 5012.
-pub(crate) fn fault_of_heard<'a>(heard: Option<&HeardRef<'a>>) -> Judged<'a>
+pub(crate) fn fault_heard_or_unable_to_comply<'a>(heard: Option<&HeardRef<'a>>) -> Judged<'a>
     ensures { shown result ≡ Some (fault_in (heard_by heard.entry)) }
 {
     let none = Judged::Bad {

@@ -23,13 +23,13 @@ ghost use Rattle.dm_peer.specs.Strangers.{StrangersChangeNothing};
 
 use crate::Peer;
 use dm_base::laws::{
-    applications_are_common_by_shared_id_or_relay, built_messages_are_good,
-    octets_spell_built_messages,
+    applications_are_common_by_shared_id_or_relay, built_messages_are_good_and_as_meant,
+    built_messages_have_spellings,
 };
 use dm_machine::laws::{
-    ceas_open_and_what_is_given_up_is_closed, each_connection_changes_as_allowed,
-    each_state_decides_refusals_and_elections, each_step_keeps_shape, few_steps_stand_for_all,
-    strangers_are_turned_away, what_unread_messages_say_makes_no_difference,
+    connection_changes_and_orders_are_allowed, each_state_decides_refusals_and_elections,
+    few_steps_stand_for_all, given_up_is_closed_others_left_alone,
+    messages_do_the_same_where_unread, steps_keep_shape_in_few_commands, strangers_are_turned_away,
 };
 use dm_wire::laws::{
     canonical_octets_spell_message, message_in_octets_is_what_they_spell, spelled_message_is_found,
@@ -57,7 +57,7 @@ pub fn each_event_keeps_peers_settled()
     ensures kept { EachEventKeepsSettled }
 {
     few_steps_stand_for_all();
-    each_step_keeps_shape();
+    steps_keep_shape_in_few_commands();
 }
 
 /// What every peer holds, whatever it was told: what it waits for goes by its state, and its numbers fit their fields.
@@ -71,23 +71,23 @@ pub fn every_peer_is_settled_with_fitting_numbers(peer: &Peer)
 /// What an event leaves of the connections that a peer holds: it takes none but the one that it names, it closes none
 /// that it holds on to, and one that has ended it doesn't hold. The law stands for users: whoever has a place for each
 /// connection that is held needs one more at the events that name one, and none for what is closed.
-pub fn only_named_connections_become_held()
+pub fn events_take_named_release_closed_connections()
     ensures others { OthersStayUnheld }
     ensures closed { ClosedIsUnheld }
     ensures gone { GoneIsUnheld }
 {
     done_events_are_steps_or_drops();
-    each_connection_changes_as_allowed();
-    ceas_open_and_what_is_given_up_is_closed();
+    connection_changes_and_orders_are_allowed();
+    given_up_is_closed_others_left_alone();
 }
 
 /// At a Start, at a Timeout, where octets aren't looked at, and where an answer is dropped, nothing is sent or handed
 /// up, so no memory is wanted.
-pub fn silent_events_take_no_memory()
+pub fn starts_timeouts_drops_take_no_memory()
     ensures { SilentTakesNone }
 {
     few_steps_stand_for_all();
-    what_unread_messages_say_makes_no_difference();
+    messages_do_the_same_where_unread();
 }
 
 /// A stranger changes nothing: where octets come on a connection that isn't held, the peer stays what it is, and closes
@@ -101,7 +101,7 @@ pub fn strangers_change_nothing()
 
 /// But for want of memory, an event is refused just by these rules: a Start outside Closed, a Stop or Submit outside
 /// the open states, and in them a Submit of what is no message of the user.
-pub fn refusals_go_by_rule()
+pub fn event_refusals_go_by_rule()
     ensures { RefusesByRule }
 {
     each_state_decides_refusals_and_elections();
@@ -116,7 +116,7 @@ pub fn each_send_spells_a_message()
     few_steps_stand_for_all();
     message_in_octets_is_what_they_spell();
     canonical_octets_spell_message();
-    octets_spell_built_messages();
+    built_messages_have_spellings();
 }
 
 /// What is heard of a message has its header.
@@ -135,7 +135,7 @@ pub fn octets_are_heard_as_their_message()
 /// What comparing changes: a CEA that passes its check fails where its sender isn't the configured peer, and goes by
 /// its Result-Code without the option; what the configured peer sends, and any other message, says the same with it and
 /// without it. The law stands for users.
-pub fn comparing_hosts_fails_only_other_senders()
+pub fn comparing_fails_only_ceas_of_others()
     ensures plain { PlainGoesByCode }
     ensures fails { OtherSenderFails }
     ensures peer { PeerIsHeardAlike }
@@ -155,7 +155,7 @@ pub fn requests_and_successes_are_heard_as_good()
     ensures dpa { DpaIsGood }
 {
     octets_are_heard_as_their_message();
-    built_messages_are_good();
-    octets_spell_built_messages();
+    built_messages_are_good_and_as_meant();
+    built_messages_have_spellings();
     applications_are_common_by_shared_id_or_relay();
 }

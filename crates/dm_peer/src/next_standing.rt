@@ -7,7 +7,7 @@ ghost use Rattle.dm_peer.specs.Events.{event_told};
 ghost use Rattle.dm_peer.specs.Lent.{heard_by};
 ghost use Rattle.dm_peer.specs.Said.{Heard, word_heard};
 
-use crate::heard_message::{HeardRef, header_heard, word_heard};
+use crate::heard_message::{HeardRef, header_heard, word_heard_or_unreadable};
 use crate::kept_peer::kept_standing;
 use crate::requests::{Request, is_dwr};
 use crate::standing::{Awaited, Standing};
@@ -119,7 +119,11 @@ fn standing_after_step(
     ensures { result ≡ standing_after standing.now (heard_by heard.entry) sent core }
 {
     let (before, after) = (standing.core.state(), core.state());
-    let left = awaited_dwa_after_word(before, word_heard(heard), standing.awaited.dwa);
+    let left = awaited_dwa_after_word(
+        before,
+        word_heard_or_unreadable(heard),
+        standing.awaited.dwa,
+    );
     Standing {
         core,
         next: next_number_after(sent, standing.next),
@@ -152,7 +156,7 @@ pub(crate) fn set_standing_after_step(
         State::ROpen | State::IOpen => {
             let left = awaited_dwa_after_word(
                 standing.core.state(),
-                word_heard(heard),
+                word_heard_or_unreadable(heard),
                 standing.awaited.dwa,
             );
             Standing {

@@ -19,7 +19,7 @@ ghost use Rattle.dm_peer.specs.declared.fault.PeerFault.TheVariants.{NoMemory};
 use crate::actions::drop_actions;
 use crate::arrivals::is_held_connection;
 use crate::kept_peer::handle_event_of_kept_peer;
-use crate::laws::{refusals_go_by_rule, silent_events_take_no_memory};
+use crate::laws::{event_refusals_go_by_rule, starts_timeouts_drops_take_no_memory};
 use crate::standing::Kept;
 use crate::{Actions, Config, Event, PeerFault};
 use arrayvec::ArrayVec;
@@ -116,8 +116,8 @@ impl Peer {
             → AreStrange self.old conn octets
             → OnOk result (TurnsAway conn actions.new.items × (self.new ≡ self.old)) }
     {
-        silent_events_take_no_memory();
-        refusals_go_by_rule();
+        starts_timeouts_drops_take_no_memory();
+        event_refusals_go_by_rule();
         let _shaped = self.state();
         handle_event_of_kept_peer(alloc, self, event, actions)
     }

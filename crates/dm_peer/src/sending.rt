@@ -5,22 +5,24 @@ ghost use Rattle.std.specs.Option.{option_copied};
 ghost use Rattle.arrayvec.specs.ArrayVec.{array_vec_len};
 ghost use Rattle.dm_base.specs.Codes.{success};
 ghost use Rattle.dm_base.specs.Built.{built_cer, built_cea, built_dwr, built_dpr, built_answer};
+ghost use Rattle.dm_peer.specs.Lent.{heard_by};
 ghost use Rattle.dm_peer.specs.Octets.{octets_of};
-ghost use Rattle.dm_peer.specs.Sent.{sent, is_protocol_error, refusal};
+ghost use Rattle.dm_peer.specs.Sent.{sent, is_protocol_error, refusal, header_of, fault_in};
 
+use crate::heard_message::{HeardRef, fault_heard_or_unable_to_comply, header_heard_or_zeros};
 use crate::message::sent_octets;
 use crate::{Action, Actions};
 use dm_base::codes::SUCCESS;
 use dm_base::{
     BaseCommand, Cause, Node, cea, cer, dpa, dpr, dwa, dwr, error_answer, success_octets,
 };
-use dm_dict::NoMemory;
+use dm_dict::{NoMemory, Verdict};
 use dm_machine::Conn;
 use dm_wire::{Avp, Header, Message, Octets};
 use std::alloc::Global;
 
 /// Appends the sending of the message; or want of memory.
-pub(crate) fn push_send(
+fn push_send(
     alloc: Global,
     conn: Conn,
     message: Message,
@@ -133,7 +135,7 @@ fn is_protocol_error(code: u32) -> bool
 }
 
 /// The answer that refuses a message.
-pub(crate) fn refusing_answer(
+fn refusing_answer(
     alloc: Global,
     node: &Node,
     to: &Header,
@@ -150,5 +152,28 @@ pub(crate) fn refusing_answer(
         Some(BaseCommand::CapabilitiesExchange) => cea(alloc, node, to, code, failed),
         Some(BaseCommand::DeviceWatchdog) => dwa(alloc, node, to, code, failed),
         _ => dpa(alloc, node, to, code, failed),
+    }
+}
+
+/// Appends the sending of the answer that refuses what was heard; or want of memory.
+#[inline(never)]
+pub(crate) fn push_send_refusal(
+    alloc: Global,
+    conn: Conn,
+    node: &Node,
+    heard: Option<&HeardRef<'_>>,
+    actions: &mut Actions,
+) -> Result<(), NoMemory>
+    requires { array_vec_len actions.old < 4 }
+    ensures { OnOk result (actions.new.items ≡ actions.old.items
+        ++ sent conn (refusal node.now (header_of (heard_by heard.entry)) (fault_in (heard_by heard.entry))) ∷ []) }
+{
+    let to = header_heard_or_zeros(heard);
+    match fault_heard_or_unable_to_comply(heard).verdict(alloc)? {
+        Verdict::Bad { code, failed } => {
+            let message = refusing_answer(alloc, node, &to, code, failed.as_ref())?;
+            push_send(alloc, conn, message, actions)
+        }
+        Verdict::Good => unreachable!(),
     }
 }

@@ -24,9 +24,9 @@ ghost use Rattle.dm_peer.specs.Faults.{fault_of};
 ghost use Rattle.dm_peer.specs.Places.{footing_of};
 ghost use Rattle.dm_peer.specs.Lent.{heard_by};
 
-use crate::arrivals::{Footing, connection_footing, is_message_dropped, leaves_octets_unread};
+use crate::arrivals::{Footing, connection_footing, is_answer_dropped, leaves_octets_unread};
 use crate::command_actions::push_command_actions;
-use crate::heard_message::{HeardRef, hear_message, heard_as_good, word_heard};
+use crate::heard_message::{HeardRef, hear_message, heard_as_good, word_heard_or_unreadable};
 use crate::message::read_message;
 use crate::next_standing::set_standing_after_step;
 use crate::requests::first_request;
@@ -80,7 +80,7 @@ fn input_of_event(event: Event<'_>, heard: Option<&HeardRef<'_>>) -> Input
         Event::Tick => Input::Tick,
         Event::Ack(conn) => Input::Ack(conn),
         Event::Nack(conn) => Input::Nack(conn),
-        Event::Arrived(conn, _) => Input::Heard(conn, word_heard(heard)),
+        Event::Arrived(conn, _) => Input::Heard(conn, word_heard_or_unreadable(heard)),
         Event::Gone(conn) => Input::Gone(conn),
         Event::Submit(_) => Input::Submit,
     }
@@ -128,7 +128,7 @@ fn handle_message(
     ensures refused { IfErr result (IsRefused (acts peer.old (event_told event.entry))) }
     ensures unchanged { OnErr result (peer.new ≡ peer.old) }
 {
-    if is_message_dropped(&peer.standing.get().awaited, footing, &message.header) {
+    if is_answer_dropped(&peer.standing.get().awaited, footing, &message.header) {
         return Ok(());
     }
     let mut heard = heard_as_good(&message.header, Word::Other);

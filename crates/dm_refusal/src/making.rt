@@ -1,7 +1,8 @@
 //! Calls that make something of what they borrow, with their requests for memory refused in turn.
 use crate::subject::MOST;
 use crate::{
-    End, end_of_answered_call, end_of_repeated_call, refuse_nth_request, was_request_refused,
+    End, end_of_answered_call, end_of_repeated_call, refuse_nth_request,
+    was_request_refused_and_stop,
 };
 use std::alloc::Global;
 
@@ -30,11 +31,11 @@ fn makes_as_expected<M: Making>(alloc: Global, making: &M) -> bool {
     }
 }
 
-/// How the call ends when its nth request is refused.
-fn end_of_refused_call<M: Making>(alloc: Global, making: &M, nth: u32) -> End {
+/// Makes the call with its nth request for memory refused, and tells how it ends.
+fn call_with_nth_refused<M: Making>(alloc: Global, making: &M, nth: u32) -> End {
     refuse_nth_request(alloc, nth);
     let first = making.call(alloc);
-    let refused = was_request_refused(alloc);
+    let refused = was_request_refused_and_stop(alloc);
     match first {
         Ok(made) => end_of_answered_call(refused, making.is_as_expected(alloc, &made)),
         Err(fault) => {
@@ -49,9 +50,9 @@ fn end_of_refused_call<M: Making>(alloc: Global, making: &M, nth: u32) -> End {
 
 /// The first request of a call that makes something is refused, then the second, and so on, until it doesn't end
 /// `Again`: the number of the last, and how the call ended then. It is `Whole` where all is well.
-pub fn refuse_requests_while_making<M: Making>(alloc: Global, making: &M) -> (u32, End) {
+pub fn refuse_requests_until_made_whole<M: Making>(alloc: Global, making: &M) -> (u32, End) {
     for nth in 1..MOST {
-        let end = end_of_refused_call(alloc, making, nth);
+        let end = call_with_nth_refused(alloc, making, nth);
         if end != End::Again {
             return (nth, end);
         }

@@ -36,15 +36,15 @@ pub fn refuse_each_request(alloc: Global) {
     try_allocate(alloc, EACH | 1);
 }
 
-/// Whether a request was refused since the last order. None is from here on.
-pub fn was_request_refused(alloc: Global) -> bool {
+/// Whether a request was refused since the last order. This is an order too: none is refused from here on.
+pub fn was_request_refused_and_stop(alloc: Global) -> bool {
     let refused = try_allocate(alloc, REFUSED);
     refuse_nth_request(alloc, 0);
     refused
 }
 
-/// Whether a request was made since the last order, refused or not. None is refused from here on.
-pub fn was_request_made(alloc: Global) -> bool {
+/// Whether a request was made since the last order, refused or not. This is an order too: none is refused from here on.
+pub fn was_request_made_and_stop(alloc: Global) -> bool {
     let asked = try_allocate(alloc, ASKED);
     refuse_nth_request(alloc, 0);
     asked

@@ -10,7 +10,8 @@ ghost use Rattle.dm_replay.specs.HappeningLines.{side_name};
 use dm_base::Cause;
 use dm_text::Words;
 use dm_words::{
-    next_long_number, next_number, only_two_numbers_left, only_word_left, read_disconnect_cause,
+    next_long_number, next_number, only_two_numbers_left, only_word_left,
+    read_disconnect_cause_by_number,
 };
 use dm_world::Side;
 
@@ -54,7 +55,7 @@ pub fn only_side_and_cause_left(left: &mut Words<'_>) -> Option<(Side, Cause)>
         → words left.old ≡ side_name side ∷ number ∷ [] → TellsNumber (cause_number cause) number → ⊥) }
 {
     let (side, word) = only_side_and_word_left(left)?;
-    let cause = read_disconnect_cause(word)?;
+    let cause = read_disconnect_cause_by_number(word)?;
     Some((side, cause))
 }
 

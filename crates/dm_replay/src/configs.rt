@@ -11,7 +11,7 @@ use dm_dict::Ip;
 use dm_peer::{Config, ConfigFault};
 use std::alloc::{AllocError, Global};
 
-/// The node of a peer.
+/// The node of a peer: host and application are its line's; realm (`example`), address and product are fixed.
 fn node_of_host(alloc: Global, own: HostLine<'_>) -> Result<Node, AllocError>
     requires { is_name own.host.now ≡ true }
     ensures { IfOk result (IsNodeOfHost (line_host own.entry)) }

@@ -3,32 +3,32 @@
 ghost use Rattle.dm_replay.specs.OneScript.{OneScript, OneBadLine, NoScriptIsBad, NothingIsNotBad, SomeScript};
 ghost use Rattle.dm_replay.specs.OneReplay.{OneRead, SomeRead, OneReplay, SomeReplay};
 
-use dm_text::laws::{each_word_tells_number_or_none, lines_of_parts_are_lines_of_whole};
+use dm_text::laws::{each_word_tells_number_or_none, joined_lines_have_joined_content};
 
 /// A text is at most one script, or has at most one first bad line, never both; one that stands for nothing has none.
-pub fn no_text_is_two_scripts()
+pub fn one_script_or_bad_line_at_most()
     ensures script { OneScript }
     ensures bad_line { OneBadLine }
     ensures not_both { NoScriptIsBad }
     ensures not_nothing { NothingIsNotBad }
 {
-    lines_of_parts_are_lines_of_whole();
+    joined_lines_have_joined_content();
 }
 
 /// Each text stands for nothing, is a script, or has a first bad line.
 pub fn each_text_is_nothing_script_or_bad()
     ensures { SomeScript }
 {
-    lines_of_parts_are_lines_of_whole();
+    joined_lines_have_joined_content();
     each_word_tells_number_or_none();
 }
 
 /// A text is read as one thing at most, and has at most one replay.
-pub fn no_text_has_two_replays()
+pub fn one_reading_and_replay_at_most()
     ensures read { OneRead }
     ensures replay { OneReplay }
 {
-    no_text_is_two_scripts();
+    one_script_or_bad_line_at_most();
 }
 
 /// Each text is read as something, and has a replay.

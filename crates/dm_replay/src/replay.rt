@@ -39,7 +39,7 @@ fn replay_script(alloc: Global, script: Script) -> Result<(Vec<u8>, bool), NoMem
     match World::new(alloc, left, right) {
         Ok(mut world) => {
             let mut text = Vec::new(alloc);
-            let good = replay_happenings(alloc, &mut world, list.as_slice(), &mut text);
+            let good = push_whole_replay(alloc, &mut world, list.as_slice(), &mut text);
             drop(world);
             Ok((text, good?))
         }
@@ -52,7 +52,7 @@ fn replay_script(alloc: Global, script: Script) -> Result<(Vec<u8>, bool), NoMem
 }
 
 /// Appends the lines for these happenings and the last line. False where one names a link that isn't there.
-fn replay_happenings(
+fn push_whole_replay(
     alloc: Global,
     world: &mut World,
     list: &[Happening],

@@ -35,7 +35,7 @@ pub fn push_trace_line(
     ensures { OnOk result (text.new.items ≡ text.old.items ++ trace_line number effect world.now) }
 {
     push_decimal(text, number as u64)?;
-    push_effect_and_side_a(text, effect)?;
+    push_spaced_effect_and_side_a(text, effect)?;
     push_state_and_connections(text, world.peer(Side::A))?;
     text.extend_from_slice(b" B ")?;
     push_state_and_connections(text, world.peer(Side::B))?;
@@ -67,7 +67,7 @@ pub fn push_end_line(text: &mut Vec<u8>, world: &World) -> Result<(), AllocError
 }
 
 /// Appends what became of a happening, and the name of side A.
-fn push_effect_and_side_a(text: &mut Vec<u8>, effect: Effect) -> Result<(), AllocError>
+fn push_spaced_effect_and_side_a(text: &mut Vec<u8>, effect: Effect) -> Result<(), AllocError>
     ensures { OnOk result (text.new.items ≡ text.old.items ++ effect_text effect) }
 {
     match effect {

@@ -10,7 +10,7 @@ ghost use Rattle.dm_replay.specs.ReadScript.{IsConfigOf, IsReading};
 use crate::configs::{config_of_hosts, config_with_dictionary_of};
 use crate::fault::ScriptFault;
 use crate::happening_list::HappeningList;
-use crate::laws::no_text_has_two_replays;
+use crate::laws::one_reading_and_replay_at_most;
 use crate::script_lines::{ScriptLines, read_script_lines};
 use dm_peer::{Config, is_same_host};
 use std::alloc::{AllocError, Global};
@@ -37,7 +37,7 @@ pub fn read_script(alloc: Global, text: &[u8]) -> Result<Option<Script>, ScriptF
     ensures only { (read : Result (Option Script) ScriptFault) → IsReading text.now read
         → (result ≡ read) ⊎ (result ≡ Err ScriptFault.NoMemory) }
 {
-    no_text_has_two_replays();
+    one_reading_and_replay_at_most();
     read_script_by_lines(alloc, text)
 }
 

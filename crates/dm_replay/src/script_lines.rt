@@ -9,7 +9,7 @@ use crate::fault::ScriptFault;
 use crate::host_line::HostLine;
 use crate::lines_so_far::{LinesSoFar, NamedPeers};
 use dm_text::Lines;
-use dm_text::laws::lines_of_parts_are_lines_of_whole;
+use dm_text::laws::{joined_lines_have_joined_content, octet_count_bounds_line_count};
 use dm_world::Happening;
 use std::alloc::Global;
 
@@ -34,7 +34,8 @@ pub fn read_script_lines(alloc: Global, text: &[u8]) -> Result<Option<ScriptLine
         TellsScript (line_host s.left) (line_host s.right) s.list.items text.now)) }
     ensures fault { IfErr result (λ f. (f ≡ NoMemory) ⊎ ((n : ℕ) × (f ≡ Syntax n) × IsFirstBad text.now n)) }
 {
-    lines_of_parts_are_lines_of_whole();
+    joined_lines_have_joined_content();
+    octet_count_bounds_line_count();
     let mut so_far = LinesSoFar::new(alloc);
     let mut count = 0;
     for line in Lines::new(text) {

@@ -152,7 +152,7 @@ impl Acquaintance {
     /// What is known behind what was told in this state to the peer and is no CER or CEA: where the peer wasn't open
     /// and is, as an election is over (RFC 6733, 5.6.4), it was opened by the CER that waited. It never answers want of
     /// memory.
-    pub fn meet_by_event(&mut self, before: State, peer: &Peer)
+    pub fn meet_if_opened_by_event(&mut self, before: State, peer: &Peer)
         ensures { self.new ≡ known_after before peer.now self.old }
     {
         if !before.is_open() && peer.is_open() {
@@ -164,11 +164,17 @@ impl Acquaintance {
     /// state that isn't open `exchange` is a copy, else no octets. Where the peer wasn't open and is, it was opened by
     /// that message, if it holds the connection, and else by the CER that waited, as where an election is over (RFC
     /// 6733, 5.6.4); and where a CER waits and none did before, it is this one. It never answers want of memory.
-    pub fn meet_by_message(&mut self, exchange: Octets, conn: Conn, before: State, peer: &Peer)
+    pub fn meet_if_opened_by_message(
+        &mut self,
+        exchange: Octets,
+        conn: Conn,
+        before: State,
+        peer: &Peer,
+    )
         ensures { self.new ≡ known_if_any exchange conn before peer.now self.old }
     {
         if exchange.is_empty() {
-            self.meet_by_event(before, peer);
+            self.meet_if_opened_by_event(before, peer);
         } else {
             self.meet_or_set_waiting_cer(exchange, conn, before, peer);
         }

@@ -64,7 +64,7 @@ impl Intake {
 
     /// Keeps of a piece what the first message wants, and answers how many octets these are. Behind a fault all is
     /// thrown away.
-    pub(crate) fn feed_front(&mut self, piece: &[u8]) -> Result<usize, AllocError>
+    pub(crate) fn feed_front_or_discard(&mut self, piece: &[u8]) -> Result<usize, AllocError>
         ensures fed { IfOk result (λ size. self.new ≡ fed_intake (take size piece.now) self.old) }
         ensures taken { IfOk result (TakesFront self.old piece.now) }
         ensures unchanged { OnErr result (self.new ≡ self.old) }
@@ -128,7 +128,7 @@ impl Intake {
     }
 
     /// A fault was told: what came, and what comes, is thrown away. It never answers want of memory.
-    pub(crate) fn discard_behind_fault(&mut self, alloc: Global)
+    pub(crate) fn discard_rest_of_stream(&mut self, alloc: Global)
         ensures { self.new ≡ broken_intake self.old }
     {
         let max = self.framer.max();

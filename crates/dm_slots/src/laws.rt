@@ -3,7 +3,7 @@ ghost use Rattle.dm_slots.specs.Staying.{OpeningKeeps, ChangingKeeps, TellingKee
 ghost use Rattle.dm_slots.specs.Staying.{ClosingKeeps, ShuttingKeeps, TakingBackUndoes};
 ghost use Rattle.dm_slots.specs.Hearing.{WholeIsTaken};
 
-use dm_framer::laws::at_most_one_frame_is_in_front;
+use dm_framer::laws::frame_or_fault_excludes_others;
 
 /// A connection that is there stays there, whatever is done with what came, but where it is closed or shut. The law
 /// stands for users: who keeps [`Slots`](crate::Slots) beside peers of his own knows by it that what these hold is
@@ -23,8 +23,8 @@ pub fn taking_back_undoes_feeding()
 {}
 
 /// Where nothing is kept, what is taken of a piece that begins with a whole message is that message.
-pub fn whole_messages_are_taken_whole()
+pub fn feed_front_takes_whole_message_len()
     ensures { WholeIsTaken }
 {
-    at_most_one_frame_is_in_front();
+    frame_or_fault_excludes_others();
 }

@@ -135,7 +135,12 @@ impl Slots {
     }
 
     /// The connection is there: as it was, or, if it wasn't, as a new one for messages of at most `max` octets.
-    pub fn open(&mut self, alloc: Global, conn: Conn, max: u32) -> Result<(), AllocError>
+    pub fn open_unless_there(
+        &mut self,
+        alloc: Global,
+        conn: Conn,
+        max: u32,
+    ) -> Result<(), AllocError>
         ensures opened { OnOk result (intakes_of self.new ≡ opened max conn.0 (intakes_of self.old)) }
         ensures unchanged { OnErr result (intakes_of self.new ≡ intakes_of self.old) }
         // Memory is wanted only for a connection that wasn't there.
@@ -185,9 +190,9 @@ impl Slots {
         }
     }
 
-    /// Keeps of a piece that came on the connection what its first message wants, where the connection is there, and
-    /// answers how many octets were taken: all of them where that isn't whole with fewer.
-    pub fn feed_front(&mut self, conn: Conn, piece: &[u8]) -> Result<usize, AllocError>
+    /// Keeps of a piece that came on the connection what its first message wants, and answers how many octets were
+    /// taken: all of them where that isn't whole with fewer, and where the connection isn't there, which keeps none.
+    pub fn feed_front_or_discard(&mut self, conn: Conn, piece: &[u8]) -> Result<usize, AllocError>
         ensures fed { IfOk result (λ size.
             intakes_of self.new ≡ changed conn.0 (fed_intake (take size piece.now)) (intakes_of self.old)) }
         ensures taken { IfOk result (TakesFrontAt (intakes_of self.old conn.0) piece.now) }
@@ -198,7 +203,7 @@ impl Slots {
         ensures owners { owners_of self.new ≡ owners_of self.old }
     {
         match self.map.get_mut(&conn.0) {
-            Some(slot) => slot.intake.feed_front(piece),
+            Some(slot) => slot.intake.feed_front_or_discard(piece),
             None => Ok(piece.len()),
         }
     }
@@ -226,14 +231,15 @@ impl Slots {
         }
     }
 
-    /// A fault of the connection was told. It never answers want of memory.
-    pub fn discard_behind_fault(&mut self, alloc: Global, conn: Conn)
+    /// A fault of the connection was told: what came on it, and what comes, is thrown away. It never answers want of
+    /// memory.
+    pub fn discard_rest_of_stream(&mut self, alloc: Global, conn: Conn)
         ensures broken { (intake : OneIntake) → intakes_of self.old conn.0 ≡ Some intake
             → intakes_of self.new ≡ with_intake conn.0 (Some (broken_intake intake)) (intakes_of self.old) }
         ensures owners { owners_of self.new ≡ owners_of self.old }
     {
         if let Some(slot) = self.map.get_mut(&conn.0) {
-            slot.intake.discard_behind_fault(alloc);
+            slot.intake.discard_rest_of_stream(alloc);
         }
     }
 

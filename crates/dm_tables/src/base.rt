@@ -136,7 +136,7 @@ pub fn base_tables(alloc: Global) -> Result<Tables, NoMemory>
     ensures base { IfOk result (λ tables. defined tables ≡ base_definitions) }
     ensures dictionary { IfOk result IsDictionary }
 {
-    let mut tables = Tables::new(alloc);
+    let mut tables = Tables::empty(alloc);
     let done = reserve_and_add_base(alloc, &mut tables);
     done.and(Ok(tables))
 }

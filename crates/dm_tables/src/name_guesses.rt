@@ -33,7 +33,7 @@ fn hash_of_name(name: &[u8]) -> u64
 }
 
 /// The guess of a slot once the AVP at the place is noted in it: a guess that it had stays.
-fn guess_after_noting(guess: u16, place: usize) -> u16
+fn guess_keeping_first(guess: u16, place: usize) -> u16
     ensures { result ≡ kept_place guess place }
 {
     if guess == NO_GUESS {
@@ -58,7 +58,7 @@ fn slot_count(avps: usize) -> usize
 
 impl NameGuesses {
     /// The guesses of no AVPs, for so many, or want of memory.
-    pub fn new(alloc: Global, avps: usize) -> Result<NameGuesses, NoMemory>
+    pub fn empty_for(alloc: Global, avps: usize) -> Result<NameGuesses, NoMemory>
         ensures { IfOk result (λ guesses. AreGuessed [] guesses.places.items) }
     {
         let places = vec![in alloc; NO_GUESS; slot_count(avps)]?;
@@ -69,7 +69,7 @@ impl NameGuesses {
     pub fn of_avps(alloc: Global, avps: &[AvpDef]) -> Result<NameGuesses, NoMemory>
         ensures { IfOk result (λ guesses. AreGuessed avps.now guesses.places.items) }
     {
-        let mut guesses = NameGuesses::new(alloc, avps.len())?;
+        let mut guesses = NameGuesses::empty_for(alloc, avps.len())?;
         guesses.note_names_of_all(avps);
         Ok(guesses)
     }
@@ -100,13 +100,13 @@ impl NameGuesses {
     {
         let slot = self.slot_of_name(name);
         if slot < self.places.len() {
-            self.places[slot] = guess_after_noting(self.places[slot], place);
+            self.places[slot] = guess_keeping_first(self.places[slot], place);
         }
     }
 
     /// The place that is guessed for a name, to be looked at before it is taken; `NO_GUESS` where no AVP has a name of
     /// its slot.
-    pub(crate) fn guess_place(&self, name: &[u8]) -> u16
+    pub(crate) fn guess_place_or_surely_none(&self, name: &[u8]) -> u16
         ensures { result ≡ slice_index self.now.places.items (slot_of (length self.now.places.items) name.now) }
     {
         self.places

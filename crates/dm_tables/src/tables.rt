@@ -30,8 +30,8 @@ pub struct Tables {
     pub guesses: [u16; 512],
 }
 
-/// Puts the place of a definition under its name.
-pub fn note_place_of_name(
+/// Puts the place of a definition under its name, in the stead of an earlier one.
+pub fn set_place_of_name(
     alloc: Global,
     names: &mut IndexMap<Vec<u8>, usize>,
     name: &[u8],
@@ -60,12 +60,12 @@ impl Tables {
     ghost use Rattle.dm_tables.specs.Definitions.{nothing_defined};
 
     /// No definitions. It never answers want of memory.
-    pub fn new(alloc: Global) -> Tables
+    pub fn empty(alloc: Global) -> Tables
         ensures empty { defined result ≡ nothing_defined }
         ensures indexed { IsTables result }
     {
         Tables {
-            vendors: Vendors::new(alloc),
+            vendors: Vendors::empty(alloc),
             avps: Vec::new(alloc),
             commands: Vec::new(alloc),
             names: IndexMap::new(alloc),
@@ -109,7 +109,7 @@ impl Tables {
     {
         let place = self.avps.as_slice().len();
         let code = (avp.code, avp.vendor);
-        let noted = note_place_of_name(alloc, &mut self.names, avp.name.as_slice(), place);
+        let noted = set_place_of_name(alloc, &mut self.names, avp.name.as_slice(), place);
         self.guesses[(avp.code % 512) as usize] = u16::try_from(place).unwrap_or(u16::MAX);
         self.avps.push(avp)?;
         self.codes.insert(code, place)?;
@@ -125,7 +125,7 @@ impl Tables {
     {
         let place = self.commands.as_slice().len();
         let head = (command.code, command.request, command.err);
-        let noted = note_place_of_name(alloc, &mut self.titles, command.name.as_slice(), place);
+        let noted = set_place_of_name(alloc, &mut self.titles, command.name.as_slice(), place);
         self.commands.push(command)?;
         self.heads.insert(head, place)?;
         noted
@@ -178,7 +178,7 @@ impl Tables {
 
     /// Adds copies of all definitions of the other tables, where these have none. After want of memory the tables are
     /// of no use.
-    pub fn add_all_copies(&mut self, alloc: Global, other: &Tables) -> Result<(), NoMemory>
+    pub fn fill_with_copies_of(&mut self, alloc: Global, other: &Tables) -> Result<(), NoMemory>
         requires tables { IsTables self.old }
         requires empty { defined self.old ≡ nothing_defined }
         requires other { IsTables other.now }
@@ -208,8 +208,9 @@ impl Tables {
         self.avp_place_by_name(name)
     }
 
-    /// The place of the AVP of a name, where it stands as guessed. None doesn't tell that there is no such AVP.
-    fn guessed_avp_place_by_name(&self, guess: u16, name: &[u8]) -> Option<usize>
+    /// The place that is guessed, where the AVP that stands there has the name; else None, which doesn't tell that no
+    /// AVP has it.
+    fn avp_place_if_name_matches(&self, guess: u16, name: &[u8]) -> Option<usize>
         requires { IsTables self.now }
         ensures { IfSome result (λ place.
             position_from (is_named name.now) 0 self.now.avps.items ≡ Some place) }
@@ -225,16 +226,16 @@ impl Tables {
 
     /// The place of the AVP of a name, by guesses that are these AVPs'. It is that of `avp_place_by_name`, and mostly
     /// known without the index.
-    pub fn avp_place_by_guess(&self, guesses: &NameGuesses, name: &[u8]) -> Option<usize>
+    pub fn avp_place_by_own_name_guesses(&self, guesses: &NameGuesses, name: &[u8]) -> Option<usize>
         requires tables { IsTables self.now }
         requires guesses { AreGuessed self.now.avps.items guesses.now.places.items }
         ensures { result ≡ position_from (is_named name.now) 0 self.now.avps.items }
     {
-        let guess = guesses.guess_place(name);
+        let guess = guesses.guess_place_or_surely_none(name);
         if guess == NO_GUESS {
             return None;
         }
-        match self.guessed_avp_place_by_name(guess, name) {
+        match self.avp_place_if_name_matches(guess, name) {
             Some(place) => Some(place),
             None => self.avp_place_by_name_outlined(name),
         }
@@ -250,7 +251,7 @@ impl Tables {
 
     /// The place of the AVP of a code and vendor, where it stands as guessed. None doesn't tell that there is no such
     /// AVP.
-    fn guessed_avp_place_by_code(&self, code: u32, vendor: Option<u32>) -> Option<usize>
+    fn avp_place_by_code_if_guessed(&self, code: u32, vendor: Option<u32>) -> Option<usize>
         requires { IsTables self.now }
         ensures value { result ≡ guessed self.now code vendor }
         ensures found { IfSome result (λ place.
@@ -291,7 +292,7 @@ impl Tables {
         requires { IsTables self.now }
         ensures { result ≡ position_from (is_coded code vendor) 0 self.now.avps.items }
     {
-        match self.guessed_avp_place_by_code(code, vendor) {
+        match self.avp_place_by_code_if_guessed(code, vendor) {
             Some(place) => Some(place),
             None => self.indexed_avp_place_by_code(code, vendor),
         }
@@ -350,12 +351,12 @@ impl Tables {
     }
 
     /// Whether there is an AVP of the name, by guesses that are these AVPs'.
-    pub fn has_avp_named_by_guess(&self, guesses: &NameGuesses, name: &[u8]) -> bool
+    pub fn has_avp_by_own_name_guesses(&self, guesses: &NameGuesses, name: &[u8]) -> bool
         requires tables { IsTables self.now }
         requires guesses { AreGuessed self.now.avps.items guesses.now.places.items }
         ensures { result ≡ list_any (is_named name.now) self.now.avps.items }
     {
-        self.avp_place_by_guess(guesses, name).is_some()
+        self.avp_place_by_own_name_guesses(guesses, name).is_some()
     }
 
     /// Whether there is an AVP of the code and vendor.

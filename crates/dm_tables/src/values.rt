@@ -1,4 +1,4 @@
-//! The values that an Enumerated AVP lists (RFC 6733, 4.3.1).
+//! The values that an Enumerated AVP lists, and sets of their numbers (RFC 6733, 4.3.1).
 ghost use Rattle.std.specs.Prelude.{◌≡◌, ◌<◌, [], ℤ, length, IfOk, OnOk, find};
 ghost use Rattle.std.specs.List.{list_any, position_from};
 ghost use Rattle.std.specs.Map.{lookup};

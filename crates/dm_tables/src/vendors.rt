@@ -5,7 +5,7 @@ ghost use Rattle.std.specs.Option.{option_copied};
 ghost use Rattle.dm_tables.specs.Definitions.{is_vendor, has_vendor_number, vendor_number};
 ghost use Rattle.dm_tables.specs.Vendored.{IsVendored};
 
-use crate::tables::{member_at, note_place_of_name};
+use crate::tables::{member_at, set_place_of_name};
 use crate::{NoMemory, VendorDef};
 use indexmap::{IndexMap, IndexSet};
 use std::alloc::Global;
@@ -40,7 +40,7 @@ fn is_name_among_first(vendors: &[VendorDef], first: usize, name: &[u8]) -> bool
 
 impl Vendors {
     /// No vendors. It never answers want of memory.
-    pub fn new(alloc: Global) -> Vendors
+    pub fn empty(alloc: Global) -> Vendors
         ensures empty { result.items.items ≡ [] }
         ensures indexed { IsVendored result }
     {
@@ -61,7 +61,7 @@ impl Vendors {
     {
         let place = self.items.as_slice().len();
         let number = vendor.number;
-        let noted = note_place_of_name(alloc, &mut self.names, vendor.name.as_slice(), place);
+        let noted = set_place_of_name(alloc, &mut self.names, vendor.name.as_slice(), place);
         self.items.push(vendor)?;
         self.numbers.insert(number)?;
         noted

@@ -37,7 +37,7 @@ pub fn read_hex_word(alloc: Global, word: &[u8]) -> Result<Option<Vec<u8>>, Allo
 
 /// Puts the octets that a word stands for in place of what `octets` holds. False where a digit is bad or their number
 /// is odd.
-pub(crate) fn read_hex_into(word: &[u8], octets: &mut Vec<u8>) -> Result<bool, AllocError>
+pub(crate) fn set_octets_from_hex(word: &[u8], octets: &mut Vec<u8>) -> Result<bool, AllocError>
     ensures { IfOk result (λ good. word_octets word.now ≡ (if good then Some octets.new.items else None)) }
 {
     if word.len() % 2 != 0 {
@@ -53,37 +53,37 @@ fn read_hex_digits(word: &[u8], octets: &mut [u8]) -> bool
     ensures { word_octets word.now ≡ (if result then Some octets.new else None) }
 {
     if octets.len() >= 16 {
-        read_sixteen_or_more(word, octets)
+        read_sixteen_octets_or_more(word, octets)
     } else if octets.len() >= 8 {
-        read_first_and_last_eight(word, octets)
+        read_first_and_last_eight_octets(word, octets)
     } else {
         read_digits_one_by_one(word, octets)
     }
 }
 
 /// Reads the digits of sixteen octets at least. False where a digit is bad.
-fn read_sixteen_or_more(word: &[u8], octets: &mut [u8]) -> bool
+fn read_sixteen_octets_or_more(word: &[u8], octets: &mut [u8]) -> bool
     requires twice { length word.now ≡ 2 * length octets.old }
     requires many { 16 ≤ length octets.old }
     ensures { word_octets word.now ≡ (if result then Some octets.new else None) }
 {
     let runs = (octets.len() - 1) / 16;
     let last = octets.len() - 16;
-    if !read_runs_of_sixteen(word, octets, runs) {
+    if !read_runs_of_sixteen_octets(word, octets, runs) {
         return false;
     }
-    are_all_digits(read_sixteen_and_give_marks(word, octets, last))
+    are_all_digits(read_sixteen_octets_and_marks(word, octets, last))
 }
 
 /// Reads the digits of so many runs of sixteen octets. False where a digit is bad.
-fn read_runs_of_sixteen(word: &[u8], octets: &mut [u8], runs: usize) -> bool
+fn read_runs_of_sixteen_octets(word: &[u8], octets: &mut [u8], runs: usize) -> bool
     requires twice { length word.now ≡ 2 * length octets.old }
     requires within { 16 * runs ≤ length octets.old }
     ensures good { result ≡ true → AreRead word.now octets.new (16 * runs) }
     ensures bad { result ≡ false → HasBadDigit word.now }
 {
     'runs: for k in 0..runs {
-        if !are_all_digits(read_sixteen_and_give_marks(word, octets, 16 * k)) {
+        if !are_all_digits(read_sixteen_octets_and_marks(word, octets, 16 * k)) {
             return false;
         }
     }
@@ -93,7 +93,7 @@ fn read_runs_of_sixteen(word: &[u8], octets: &mut [u8], runs: usize) -> bool
 /// Reads the digits of sixteen octets from here on, which may have been read. Gives marks that are good where each
 /// digit is.
 #[inline(always)]
-fn read_sixteen_and_give_marks(word: &[u8], octets: &mut [u8], from: usize) -> u8x16
+fn read_sixteen_octets_and_marks(word: &[u8], octets: &mut [u8], from: usize) -> u8x16
     requires twice { length word.now ≡ 2 * length octets.old }
     requires within { from + 16 ≤ length octets.old }
     ensures good { bad_marks result ≡ 0 → (i : ℕ) → from ≤ i → AreRead word.now octets.old i →
@@ -108,7 +108,7 @@ fn read_sixteen_and_give_marks(word: &[u8], octets: &mut [u8], from: usize) -> u
 
 /// Reads the digits of the first eight octets and of the last eight, which may have some in common. False where a digit
 /// is bad.
-fn read_first_and_last_eight(word: &[u8], octets: &mut [u8]) -> bool
+fn read_first_and_last_eight_octets(word: &[u8], octets: &mut [u8]) -> bool
     requires twice { length word.now ≡ 2 * length octets.old }
     requires many { 8 ≤ length octets.old }
     requires few { length octets.old ≤ 16 }
@@ -157,7 +157,7 @@ impl fmt::Display for Hexadecimal<'_> {
         let mut rest = self.0;
         while !rest.is_empty() {
             let (some, more) = rest.split_at(rest.len().min(OCTETS_AT_ONCE));
-            write_hex_piece(f, some)?;
+            write_hex_at_once(f, some)?;
             rest = more;
         }
         Ok(())
@@ -165,7 +165,7 @@ impl fmt::Display for Hexadecimal<'_> {
 }
 
 /// Writes octets in lower case hexadecimal, 64 at most.
-fn write_hex_piece<W: fmt::Write>(f: &mut fmt::Formatter<W>, octets: &[u8]) -> fmt::Result
+fn write_hex_at_once<W: fmt::Write>(f: &mut fmt::Formatter<W>, octets: &[u8]) -> fmt::Result
     requires { length octets.now ≤ octets_at_once }
     ensures { WritesOnOk W.Write.write_str_gives f.old result (encode_lower octets.now) f.new }
 {
@@ -196,14 +196,14 @@ pub fn put_hexadecimal(text: &mut String, octets: &[u8]) -> Result<(), AllocErro
     let mut rest = octets;
     while !rest.is_empty() {
         let (some, left) = rest.split_at(rest.len().min(OCTETS_AT_ONCE));
-        put_hex_piece(text, some)?;
+        put_hex_at_once(text, some)?;
         rest = left;
     }
     Ok(())
 }
 
 /// Appends octets in lower case hexadecimal, 64 at most.
-fn put_hex_piece(text: &mut String, octets: &[u8]) -> Result<(), AllocError>
+fn put_hex_at_once(text: &mut String, octets: &[u8]) -> Result<(), AllocError>
     requires { length octets.now ≤ octets_at_once }
     ensures { OnOk result (string_bytes text.new ≡ string_bytes text.old ++ encode_lower octets.now) }
 {
@@ -228,12 +228,12 @@ fn fill_hex_digits(octets: &[u8], room: &mut [u8])
     ensures { room.new ≡ encode_lower octets.now }
 {
     let runs = octets.len() / 16;
-    fill_hex_digits_of_runs(octets, room, runs);
+    fill_hex_digits_by_sixteens(octets, room, runs);
     fill_hex_digits_from(octets, room, 16 * runs);
 }
 
 /// Puts the digits of so many runs of sixteen octets.
-fn fill_hex_digits_of_runs(octets: &[u8], room: &mut [u8], runs: usize)
+fn fill_hex_digits_by_sixteens(octets: &[u8], room: &mut [u8], runs: usize)
     requires twice { length room.old ≡ 2 * length octets.now }
     requires within { 16 * runs ≤ length octets.now }
     ensures { PutUpTo octets.now room.new (16 * runs) }

@@ -1,4 +1,5 @@
-//! Hexadecimal digits, sixteen at once: each in a lane of its own.
+//! Hexadecimal digits, sixteen at once, each in a lane of its own: its mark is 240 and its value, or less where it is
+//! none.
 ghost use Rattle.std.specs.Prelude.{◌≡◌, ◌==◌, ◌++◌, map};
 ghost use Rattle.dm_text.specs.Hexadecimal.{digit_worth, high_digit, low_digit};
 ghost use Rattle.dm_text.specs.SideBySide.{bad_marks, by_turns, paired, worth_of_mark};

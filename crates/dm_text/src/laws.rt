@@ -23,9 +23,13 @@ pub fn hexadecimal_reads_back()
     ensures { OctetsReadBack }
 {}
 
-/// The lines that stand for something are those of a front and then those of the rest, and there are at most as many
-/// lines as octets, and one.
-pub fn lines_of_parts_are_lines_of_whole()
-    ensures content { ContentIsJoined }
-    ensures few { LinesAreFew }
+/// Of lines one behind the other those that stand for something are those of the first lines, and then those of the
+/// others.
+pub fn joined_lines_have_joined_content()
+    ensures { ContentIsJoined }
+{}
+
+/// A text has at most as many lines as octets, and one.
+pub fn octet_count_bounds_line_count()
+    ensures { LinesAreFew }
 {}

@@ -1,4 +1,4 @@
-//! The lines of an input.
+//! The lines of an input: where each ends, the spaces at its ends, and whether it is empty or a comment.
 ghost use Rattle.std.specs.Prelude.{◌≡◌, ◌==◌, position};
 ghost use Rattle.std.specs.Str.Lines.{lines, strip_carriage_return};
 ghost use Rattle.std.specs.Iterator.{YieldsFirstRef, item_count};
@@ -50,7 +50,7 @@ impl<'a> Iterator for Lines<'a> {
         match first_line_feed(rest) {
             Some(end) => {
                 self.rest = &rest[end + 1..];
-                Some(without_carriage_return(&rest[..end]))
+                Some(without_trailing_carriage_return(&rest[..end]))
             }
             None => {
                 self.rest = &[];
@@ -68,7 +68,7 @@ pub fn first_line_feed(input: &[u8]) -> Option<usize>
 }
 
 /// The line without a CR at its end, where there is one.
-fn without_carriage_return(line: &[u8]) -> &[u8]
+fn without_trailing_carriage_return(line: &[u8]) -> &[u8]
     ensures { result.now ≡ strip_carriage_return line.now }
 {
     match line {

@@ -1,9 +1,9 @@
-//! Room for lines of hexadecimal, which is used again from line to line.
+//! Lines of hexadecimal, with or without spaces, read in room that is used again from line to line.
 ghost use Rattle.std.specs.Prelude.{◌≡◌, IfOk, OnOk, true};
 ghost use Rattle.std.specs.Option.{option_map};
 ghost use Rattle.dm_text.specs.Hexadecimal.{line_octets, without_spaces};
 
-use crate::hexadecimal::read_hex_into;
+use crate::hexadecimal::set_octets_from_hex;
 use memchr::memchr;
 use std::alloc::{AllocError, Global};
 
@@ -55,10 +55,10 @@ impl LineRoom {
         ensures { IfOk result (λ octets. option_map (λ o. o.now) octets ≡ line_octets line.now) }
     {
         let good = if has_no_space(line) {
-            read_hex_into(line, &mut self.octets)?
+            set_octets_from_hex(line, &mut self.octets)?
         } else {
             copy_without_spaces(line, &mut self.digits)?;
-            read_hex_into(self.digits.as_slice(), &mut self.octets)?
+            set_octets_from_hex(self.digits.as_slice(), &mut self.octets)?
         };
         if good {
             Ok(Some(self.octets.as_slice()))

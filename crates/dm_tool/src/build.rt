@@ -4,16 +4,17 @@ ghost use Rattle.dm_tool.specs.Build.{BuildsText};
 
 use crate::built_messages::Building;
 use crate::fault::ToolFault;
-use dm_text::laws::lines_of_parts_are_lines_of_whole;
+use dm_text::laws::{joined_lines_have_joined_content, octet_count_bounds_line_count};
 use dm_text::{Lines, push_syntax_fault_of_line};
 use std::alloc::Global;
 
-/// The text for an input, and whether all of it is good.
+/// The text for an input, and whether all of it is good: a line out of place is told at the end of the text.
 pub fn build_text(alloc: Global, input: &[u8]) -> Result<(Vec<u8>, bool), ToolFault>
     ensures built { IfOk result (λ built. BuildsText input.now built.0.items built.1) }
     ensures fault { IfErr result (λ e. e ≡ ToolFault.Memory) }
 {
-    lines_of_parts_are_lines_of_whole();
+    joined_lines_have_joined_content();
+    octet_count_bounds_line_count();
     let mut building = Building::new(alloc);
     let mut before: u64 = 0;
     for line in Lines::new(input) {

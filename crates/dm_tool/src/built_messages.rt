@@ -11,7 +11,7 @@ ghost use Rattle.dm_tool.specs.Progress.{last_message, HoldsBehind, GoesOnNowher
 use crate::avp_line::read_avp_line;
 use crate::fault::ToolFault;
 use crate::header_line::read_header_line;
-use crate::message_text::push_message_fault;
+use crate::message_text::push_message_fault_words;
 use dm_text::{is_empty_or_comment, push_hexadecimal, trim_spaces};
 use dm_wire::{Avp, AvpList, Header, Message};
 use std::alloc::Global;
@@ -53,7 +53,7 @@ impl Building {
             → (l : List Message) × TellsAll l lines × BuildsMessages l built.0.items built.1) }
         ensures fault { IfErr result (λ e. e ≡ ToolFault.Memory) }
     {
-        self.push_last_message_if_any(alloc)?;
+        self.push_last_message_and_clear_avps(alloc)?;
         Ok((self.text, self.good))
     }
 
@@ -72,7 +72,7 @@ impl Building {
         }
         match read_header_line(line) {
             Some(header) => {
-                self.push_last_message_if_any(alloc)?;
+                self.push_last_message_and_clear_avps(alloc)?;
                 self.last = Some(header);
                 Ok(true)
             }
@@ -101,8 +101,8 @@ impl Building {
         }
     }
 
-    /// Puts the last message into the text, where there is one.
-    fn push_last_message_if_any(&mut self, alloc: Global) -> Result<(), ToolFault>
+    /// Puts the last message into the text, where there is one, and has no AVPs then; its header stays.
+    fn push_last_message_and_clear_avps(&mut self, alloc: Global) -> Result<(), ToolFault>
         ensures built { OnOk result ((more : List ℕ) × (fine : Bool)
             × (self.new.text.items ≡ self.old.text.items ++ more)
             × (self.new.good ≡ (self.old.good && fine))
@@ -143,7 +143,7 @@ fn push_octets_or_fault_line(
             Ok(true)
         }
         Err(fault) => {
-            push_message_fault(text, fault)?;
+            push_message_fault_words(text, fault)?;
             text.push(b'\n')?;
             Ok(false)
         }

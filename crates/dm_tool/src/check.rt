@@ -7,7 +7,7 @@ ghost use Rattle.dm_dict_text.specs.declared.fault.DictFault.TheVariants as dict
 use crate::divide::divide_at_divider;
 use crate::fault::ToolFault;
 use crate::messages::{Task, messages_text};
-use crate::verdict::put_dictionary_fault;
+use crate::verdict::put_dictionary_fault_words;
 use dm_dict::{DictFault, Dictionary};
 use std::alloc::Global;
 
@@ -62,7 +62,7 @@ fn dictionary_refusal_text(alloc: Global, fault: DictFault) -> Result<(Vec<u8>, 
     ensures fault { IfErr result (λ e. e ≡ ToolFault.Memory) }
 {
     let mut text = String::new(alloc);
-    put_dictionary_fault(&mut text, fault)?;
+    put_dictionary_fault_words(&mut text, fault)?;
     text.push_str("\n")?;
     Ok((text.into_bytes(), false))
 }

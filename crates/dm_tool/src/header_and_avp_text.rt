@@ -20,11 +20,11 @@ pub fn push_header(text: &mut Vec<u8>, header: Header) -> Result<(), AllocError>
     text.extend_from_slice(&[b' ', r, p, e, t])?;
     text.extend_from_slice(b" app ")?;
     push_decimal(text, u64::from(header.application))?;
-    push_identifiers(text, header.hop_id, header.end_id)
+    push_spaced_identifiers(text, header.hop_id, header.end_id)
 }
 
 /// Appends the identifiers of a header.
-fn push_identifiers(text: &mut Vec<u8>, hop_id: u32, end_id: u32) -> Result<(), AllocError>
+fn push_spaced_identifiers(text: &mut Vec<u8>, hop_id: u32, end_id: u32) -> Result<(), AllocError>
     ensures { OnOk result (text.new.items
         ≡ text.old.items ++ codes " hop " ++ decimal hop_id ++ codes " end " ++ decimal end_id) }
 {

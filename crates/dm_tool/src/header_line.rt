@@ -17,7 +17,7 @@ pub fn read_header_line(line: &[u8]) -> Option<Header>
     let mut words = Words::new(line);
     let command = next_named_number(&mut words, b"message")?;
     let flags = read_header_flags(words.next()?)?;
-    let names = read_header_numbers(&mut words)?;
+    let names = read_rest_as_header_numbers(&mut words)?;
     Some(Header {
         request: flags.request,
         proxiable: flags.proxiable,
@@ -39,7 +39,7 @@ struct Names {
 }
 
 /// The numbers that the words left tell, each behind its name; None where they tell others, or more words follow.
-fn read_header_numbers(left: &mut Words<'_>) -> Option<Names>
+fn read_rest_as_header_numbers(left: &mut Words<'_>) -> Option<Names>
     ensures told { IfSome result (λ n. TellsNames n.application n.hop_id n.end_id (words left.old)) }
     ensures none { IfNone result ((a h e : ℕ) → TellsNames a h e (words left.old) → ⊥) }
 {

@@ -10,11 +10,11 @@ pub fn commands_print_one_text_at_most()
     dm_wire::laws::octets_begin_with_one_message_at_most();
     dm_wire::laws::octets_have_at_most_one_fault();
     dm_wire::laws::octets_of_messages_have_no_fault();
-    dm_dict_text::laws::each_text_defines_one_whole_at_most();
+    dm_dict_text::laws::each_text_defines_one_dictionary_at_most();
     dm_dict_text::laws::each_text_has_one_first_fault_at_most();
     dm_dict_text::laws::defining_texts_have_no_fault();
-    dm_text::laws::lines_of_parts_are_lines_of_whole();
-    dm_replay::laws::no_text_has_two_replays();
+    dm_text::laws::joined_lines_have_joined_content();
+    dm_replay::laws::one_reading_and_replay_at_most();
 }
 
 /// Under each command each input has a text and a status. The law stands for users.
@@ -27,7 +27,7 @@ pub fn commands_always_have_a_text_to_print()
     dm_wire::laws::equal_messages_are_the_same();
     dm_wire::laws::octets_of_messages_have_no_fault();
     dm_dict_text::laws::each_text_defines_or_has_fault();
-    dm_text::laws::lines_of_parts_are_lines_of_whole();
+    dm_text::laws::joined_lines_have_joined_content();
     dm_replay::laws::each_text_has_a_replay();
 }
 

@@ -51,7 +51,7 @@ fn push_avp_line(text: &mut Vec<u8>, avp: AvpRef<'_>) -> Result<(), AllocError>
 
 /// Appends the words for a fault. Want of memory has no words, and is answered as such.
 #[tactic(auto, unfolding(crate::specs::Text::fault_text))]
-pub fn push_message_fault(text: &mut Vec<u8>, fault: WireFault) -> Result<(), ToolFault>
+pub fn push_message_fault_words(text: &mut Vec<u8>, fault: WireFault) -> Result<(), ToolFault>
     ensures words { OnOk result (text.new.items ≡ text.old.items ++ fault_text fault) }
     ensures known { OnOk result (fault ≢ WireFault.NoMemory) }
     ensures memory { IfErr result (λ e. e ≡ ToolFault.Memory) }

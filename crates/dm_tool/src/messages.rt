@@ -8,8 +8,8 @@ ghost use Rattle.dm_tool.specs.Text.{fault_text};
 ghost use Rattle.dm_tool.specs.Tasks.{answer_of};
 
 use crate::fault::ToolFault;
-use crate::message_text::{push_message_fault, push_message_text};
-use crate::verdict::push_judged_line;
+use crate::message_text::{push_message_fault_words, push_message_text};
+use crate::verdict::push_verdict_line_of_judged;
 use dm_dict::Dictionary;
 use dm_text::{LineRoom, Lines, is_empty_or_comment, trim_spaces};
 use dm_wire::{MessageRef, WireFault};
@@ -39,15 +39,16 @@ pub fn messages_text(
     for line in Lines::new(input) {
         let line = trim_spaces(line);
         if !is_empty_or_comment(line) {
-            let fine = push_text_for_line(alloc, task, line, &mut room, &mut text)?;
+            let fine = push_text_for_hex_line(alloc, task, line, &mut room, &mut text)?;
             good = good && fine;
         }
     }
     Ok((text, good))
 }
 
-/// Appends the text for a line. True where it is good. The room is used again from line to line.
-fn push_text_for_line(
+/// Appends the text for a line of hexadecimal digits. True where it is good. Empty lines and comments are the caller's
+/// to leave out: here they are faults. The room is used again from line to line.
+fn push_text_for_hex_line(
     alloc: Global,
     task: Task<'_>,
     line: &[u8],
@@ -113,7 +114,7 @@ fn push_verdict_or_fault(
     match MessageRef::read(octets) {
         Ok(message) => {
             let judged = dictionary.judge(&message);
-            push_judged_line(alloc, text, judged)
+            push_verdict_line_of_judged(alloc, text, judged)
         }
         Err(fault) => push_fault_line(text, fault),
     }
@@ -126,7 +127,7 @@ fn push_fault_line(text: &mut Vec<u8>, fault: WireFault) -> Result<bool, ToolFau
     ensures bad { IfOk result (λ good. good ≡ false) }
     ensures fault { IfErr result (λ e. e ≡ ToolFault.Memory) }
 {
-    push_message_fault(text, fault)?;
+    push_message_fault_words(text, fault)?;
     text.push(b'\n')?;
     Ok(false)
 }

@@ -14,7 +14,7 @@ use crate::fault::ToolFault;
 use crate::run::run_words_on_source;
 use crate::source::Source;
 use crate::status::ending;
-use dm_io::{WordsFault, write_ending_words};
+use dm_io::{WordsFault, end_with_status_and_words};
 use std::alloc::Global;
 use std::io::Write;
 
@@ -72,5 +72,5 @@ fn end_with_outcome<E: Write>(outcome: Option<Result<bool, ToolFault>>, errors: 
         × Appends (E.contents errors.old) (E.contents errors.new) front }
 {
     let (status, words) = ending(outcome);
-    write_ending_words(outcome, status, words, errors)
+    end_with_status_and_words(outcome, status, words, errors)
 }

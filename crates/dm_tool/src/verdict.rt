@@ -13,9 +13,9 @@ use dm_text::push_decimal;
 use dm_wire::{Avp, AvpRef};
 use std::alloc::{AllocError, Global};
 
-/// Appends the line for what was found, and tells whether it is good. An AVP of the message isn't copied: only the
-/// example of one that it lacks is made.
-pub fn push_judged_line(
+/// Appends the line of the verdict that was found, and tells whether it is good. An AVP of the message isn't copied:
+/// only the example of one that it lacks is made.
+pub fn push_verdict_line_of_judged(
     alloc: Global,
     text: &mut Vec<u8>,
     judged: Judged<'_>,
@@ -79,7 +79,7 @@ fn push_bad_verdict_line(
 
 /// Appends the words for a fault of a dictionary. Want of memory has no words, and is answered as such.
 #[tactic(auto, unfolding(crate::specs::Check::dictionary_fault_text))]
-pub fn put_dictionary_fault(text: &mut String, fault: DictFault) -> Result<(), ToolFault>
+pub fn put_dictionary_fault_words(text: &mut String, fault: DictFault) -> Result<(), ToolFault>
     ensures words { OnOk result (string_bytes text.new ≡ string_bytes text.old ++ dictionary_fault_text fault) }
     ensures known { OnOk result (fault ≢ dict.NoMemory) }
     ensures memory { IfErr result (λ e. e ≡ ToolFault.Memory) }

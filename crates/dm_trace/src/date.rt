@@ -24,7 +24,7 @@ pub(crate) fn seconds_since_1900(seconds: i64) -> u64
 }
 
 /// Whether a value of type Time has these seconds since 1900 (RFC 6733, 4.3.1).
-pub(crate) fn fits_time_value(seconds: u64) -> bool
+pub(crate) fn fits_diameter_time(seconds: u64) -> bool
     ensures { result ≡ is_dated seconds }
 {
     seconds >= 0x8000_0000 && seconds < 0x1_8000_0000

@@ -45,7 +45,7 @@ impl Transport {
 }
 
 /// Appends between whom a message was seen: ` FROM > TO`.
-fn put_from_and_to(text: &mut String, from: Endpoint, to: Endpoint) -> Result<(), AllocError>
+fn put_spaced_from_and_to(text: &mut String, from: Endpoint, to: Endpoint) -> Result<(), AllocError>
     ensures { OnOk result (string_bytes text.new ≡ string_bytes text.old ++ ends_text from to) }
 {
     text.push_str(" ")?;
@@ -56,7 +56,7 @@ fn put_from_and_to(text: &mut String, from: Endpoint, to: Endpoint) -> Result<()
 }
 
 /// Appends what carried a message, and in which packet: ` tcp packet 17`.
-fn put_transport_and_packet(
+fn put_spaced_transport_and_packet(
     text: &mut String,
     transport: Transport,
     packet: u64,
@@ -77,7 +77,7 @@ pub fn put_seen(text: &mut String, clock: Clock, seen: &Seen) -> Result<(), Allo
     ensures { OnOk result (string_bytes text.new ≡ string_bytes text.old ++ front_text clock seen.now) }
 {
     put_time_or_dash(text, clock, seen.time)?;
-    put_from_and_to(text, seen.from, seen.to)?;
-    put_transport_and_packet(text, seen.transport, seen.packet)?;
+    put_spaced_from_and_to(text, seen.from, seen.to)?;
+    put_spaced_transport_and_packet(text, seen.transport, seen.packet)?;
     Ok(())
 }

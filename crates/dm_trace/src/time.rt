@@ -6,7 +6,7 @@ ghost use Rattle.dm_trace.specs.Digits.{last_digits};
 ghost use Rattle.dm_trace.specs.Times.{fraction_text, instant_text, clock_text, when_text};
 
 use crate::date::{
-    fits_time_value, put_date_and_time, seconds_since_1900, utc_of_seconds_since_1900,
+    fits_diameter_time, put_date_and_time, seconds_since_1900, utc_of_seconds_since_1900,
 };
 use crate::digits::put_last_digits;
 use crate::nanoseconds::{fraction_nanoseconds, put_elapsed_seconds};
@@ -48,7 +48,7 @@ fn put_fraction(text: &mut String, time: Time) -> Result<(), AllocError>
 }
 
 /// Appends seconds since 1970 in decimal, behind `-` where they are below 0.
-fn put_seconds(text: &mut String, seconds: i64) -> Result<(), AllocError>
+fn put_seconds_since_1970(text: &mut String, seconds: i64) -> Result<(), AllocError>
     ensures { OnOk result (string_bytes text.new ≡ string_bytes text.old ++ signed_decimal seconds) }
 {
     if seconds < 0 {
@@ -62,12 +62,12 @@ fn put_instant(text: &mut String, time: Time) -> Result<(), AllocError>
     ensures { OnOk result (string_bytes text.new ≡ string_bytes text.old ++ instant_text time) }
 {
     let seconds = seconds_since_1900(time.seconds);
-    if fits_time_value(seconds) {
+    if fits_diameter_time(seconds) {
         put_date_and_time(text, &utc_of_seconds_since_1900(seconds))?;
         put_fraction(text, time)?;
         text.push_str("Z")
     } else {
-        put_seconds(text, time.seconds)?;
+        put_seconds_since_1970(text, time.seconds)?;
         put_fraction(text, time)
     }
 }

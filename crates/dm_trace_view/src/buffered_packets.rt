@@ -9,7 +9,7 @@ ghost use Rattle.dm_trace_view.specs.Runs.{SaysFile, StopsFile};
 
 use crate::gathered_packets::{Output, say_and_gather_held_packets};
 use crate::speaker::PacketSpeaker;
-use dm_capture::laws::cuts_change_no_packets;
+use dm_capture::laws::read_items_stay_and_runs_join;
 use dm_capture::{CaptureFault, CaptureReader};
 use dm_dict::Dictionary;
 use dm_view_lines::laws::texts_gathered_in_turn_gather_as_one;
@@ -18,7 +18,7 @@ use std::alloc::Global;
 use std::io::{BufRead, Error, ErrorKind, Write};
 
 /// Writes what waits though the run stops by this fault, unless it was a write that failed. It tells why the run stops.
-fn write_waiting_after_fault<W: Write>(
+fn write_waiting_unless_write_failed<W: Write>(
     fault: PutFault,
     output: &mut Output,
     writer: &mut W,
@@ -62,7 +62,7 @@ fn say_and_write_held_packets<S: PacketSpeaker, W: Write>(
             write_waiting_text(&mut output.waits, writer)?;
             Ok(fault)
         }
-        Err(fault) => Err(write_waiting_after_fault(fault, output, writer)),
+        Err(fault) => Err(write_waiting_unless_write_failed(fault, output, writer)),
     }
 }
 
@@ -102,7 +102,7 @@ fn feed_from_reader<R: BufRead>(
 fn fault_at_end(capture: &CaptureReader) -> Option<CaptureFault>
     ensures { FileEnds capture.now result }
 {
-    match capture.check_end() {
+    match capture.check_is_whole_file() {
         Ok(()) => None,
         Err(fault) => Some(fault),
     }
@@ -129,7 +129,7 @@ pub(crate) fn say_packets<S: PacketSpeaker, R: BufRead, W: Write>(
         (S.says dictionary.now style.task) speaker.old fault (R.remaining reader.old) (R.remaining reader.new)
         (W.contents writer.old) (W.contents writer.new)) }
 {
-    cuts_change_no_packets();
+    read_items_stay_and_runs_join();
     texts_gathered_in_turn_gather_as_one();
     for _ in 0..u64::MAX {
         let fault = say_and_write_held_packets(

@@ -72,7 +72,7 @@ fn avp_says(avp: AvpRef<'_>, asked: Asked<'_>) -> bool
     }
 }
 
-/// Whether one of the AVPs says what is asked for.
+/// Whether one of the AVPs themselves says what is asked for; it looks into no group.
 fn any_avp_says(list: AvpsRef<'_>, asked: Asked<'_>) -> bool
     ensures { (l : List Avp) → Lists list.entry l → result ≡ list_any (says_asked asked.entry) l }
 {

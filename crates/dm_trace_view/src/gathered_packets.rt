@@ -6,11 +6,11 @@ ghost use Rattle.dm_view_lines.specs.Colours.{styled};
 ghost use Rattle.dm_trace_view.specs.Packets.{TellsPackets, StopsPackets, TellsHeld, StopsHeld};
 
 use crate::speaker::PacketSpeaker;
-use dm_capture::laws::cuts_change_no_packets;
+use dm_capture::laws::read_items_stay_and_runs_join;
 use dm_capture::{CaptureFault, CaptureReader, FaultKind, Packet};
 use dm_dict::Dictionary;
 use dm_view_lines::laws::texts_gathered_in_turn_gather_as_one;
-use dm_view_lines::{PutFault, Style, gather_or_write_text};
+use dm_view_lines::{PutFault, Style, gather_text_and_write_if_full};
 use std::alloc::Global;
 use std::io::Write;
 
@@ -40,7 +40,7 @@ fn say_and_gather_packet<S: PacketSpeaker, W: Write>(
 {
     output.text.clear();
     speaker.say_packet(alloc, dictionary, style.task, packet, &mut output.text)?;
-    gather_or_write_text(
+    gather_text_and_write_if_full(
         alloc,
         style,
         output.text.as_bytes(),
@@ -70,7 +70,7 @@ pub(crate) fn say_and_gather_held_packets<S: PacketSpeaker, W: Write>(
         (S.says dictionary.now style.task) capture.old speaker.old fault (W.contents writer.old)
         output.old.waits.items (W.contents writer.new) output.new.waits.items) }
 {
-    cuts_change_no_packets();
+    read_items_stay_and_runs_join();
     texts_gathered_in_turn_gather_as_one();
     for _ in 0..u64::MAX {
         match capture.next() {

@@ -72,7 +72,7 @@ fn numbered_with_said_message(
 
 /// Numbers a message behind those that were handed out; where it passes the filter, appends what is said of it, and
 /// counts it as good or bad.
-fn count_message_and_put_if_passing(
+fn number_message_and_put_if_passing(
     alloc: Global,
     text: &mut String,
     dictionary: &Dictionary,
@@ -104,7 +104,7 @@ fn count_message_and_put_if_passing(
 
 /// Hands out the whole messages of one direction and numbers them; appends what is said of those that pass the filter,
 /// and counts them as good or bad.
-pub(crate) fn hand_out_and_put_messages<C: TwoWay>(
+pub(crate) fn hand_out_messages_and_put_passing<C: TwoWay>(
     alloc: Global,
     text: &mut String,
     dictionary: &Dictionary,
@@ -125,7 +125,7 @@ pub(crate) fn hand_out_and_put_messages<C: TwoWay>(
         let Some(message) = handed else {
             return Ok(so_far);
         };
-        let said = count_message_and_put_if_passing(
+        let said = number_message_and_put_if_passing(
             alloc,
             text,
             dictionary,

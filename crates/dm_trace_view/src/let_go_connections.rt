@@ -27,7 +27,7 @@ fn put_let_go_connection<C: TwoWay>(
         packet,
         from: gone.ends.first,
         to: gone.ends.second,
-        lost: Lost::LetGo(gone.connection.octets_pending()),
+        lost: Lost::LetGo(gone.connection.octets_held_that_came()),
     };
     put_lost(alloc, text, task, told)
 }
@@ -52,7 +52,7 @@ pub(crate) fn let_go_and_put_excess_connections<C: TwoWay>(
             return Ok(so_far);
         };
         let told = put_let_go_connection(alloc, text, hearing.task, hearing.packet, &gone);
-        so_far = so_far.saturating_add(gone.connection.octets_pending());
+        so_far = so_far.saturating_add(gone.connection.octets_held_that_came());
         drop(gone);
         told?;
     }
@@ -60,12 +60,15 @@ pub(crate) fn let_go_and_put_excess_connections<C: TwoWay>(
 }
 
 /// Lets all connections go, and counts the octets of them that came and weren't handed out, on top of so many.
-pub(crate) fn let_all_go_and_count<C: TwoWay>(connections: &mut Connections<C>, counted: u64) -> u64
+pub(crate) fn let_all_go_and_count_pending<C: TwoWay>(
+    connections: &mut Connections<C>,
+    counted: u64,
+) -> u64
     ensures { result ≡ more_of counted (all_octets C.pending_in connections.old.held) }
 {
     let mut so_far = counted;
     while let Some(gone) = connections.let_idlest_go() {
-        so_far = so_far.saturating_add(gone.connection.octets_pending());
+        so_far = so_far.saturating_add(gone.connection.octets_held_that_came());
         drop(gone);
     }
     so_far

@@ -38,7 +38,7 @@ pub struct LostIn {
 }
 
 /// Appends two ends: ` FROM > TO`.
-fn put_from_and_to(text: &mut String, from: Endpoint, to: Endpoint) -> Result<(), AllocError>
+fn put_spaced_from_and_to(text: &mut String, from: Endpoint, to: Endpoint) -> Result<(), AllocError>
     ensures { OnOk result (string_bytes text.new ≡ string_bytes text.old ++ ends_text from to) }
 {
     text.push_str(" ")?;
@@ -73,7 +73,7 @@ fn put_lost_line(text: &mut String, told: LostIn) -> Result<(), AllocError>
 {
     text.push_str("packet ")?;
     put_decimal(text, told.packet)?;
-    put_from_and_to(text, told.from, told.to)?;
+    put_spaced_from_and_to(text, told.from, told.to)?;
     text.push_str(": ")?;
     put_lost_words(text, told.lost)?;
     text.push_str("\n")

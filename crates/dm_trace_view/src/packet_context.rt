@@ -1,4 +1,5 @@
-//! What is said of a packet whatever its transport, and what is counted.
+//! The context in which a packet is told, whatever its transport: the task, what is looked at, its time and its number;
+//! and what was counted.
 ghost use Rattle.std.specs.Prelude.{◌≡◌};
 ghost use Rattle.dm_trace_view.specs.Traces.{same_end, seen_by, direction_by};
 

@@ -4,16 +4,15 @@ ghost use Rattle.std.specs.Io.KnownBytes.{Appends};
 ghost use Rattle.dm_view_lines.specs.Colours.{styled};
 ghost use Rattle.dm_view_lines.specs.Ending.{FailsAtEnd};
 ghost use Rattle.dm_view_lines.specs.Faults.{run_fault};
-ghost use Rattle.dm_trace_view.specs.Captures.{SaysCapture, StopsCapture, is_all_good, counts_behind};
+ghost use Rattle.dm_trace_view.specs.Captures.{SaysCapture, StopsCapture, is_all_good};
 ghost use Rattle.dm_trace_view.specs.Told.{ending_text};
 
 use crate::buffered_packets::say_packets;
 use crate::counts::Counts;
 use crate::ending::put_fault_and_counts;
 use crate::gathered_packets::Output;
-use crate::let_go_connections::let_all_go_and_count;
 use crate::looks::Looks;
-use crate::trace_speaker::{TraceSpeaker, new_trace_speaker};
+use crate::trace_speaker::{let_all_go_and_take_counts, new_trace_speaker};
 use dm_capture::{CaptureFault, CaptureReader};
 use dm_dict::Dictionary;
 use dm_view_lines::laws::texts_gathered_in_turn_gather_as_one;
@@ -21,18 +20,6 @@ use dm_view_lines::{PutFault, RunFault, Style, Tally, write_text_in_style};
 use std::alloc::Global;
 use std::hash::RandomState;
 use std::io::{BufRead, Write};
-
-/// What was counted, with the octets as passed over that came and weren't handed out. It lets all connections go.
-fn let_all_go_and_take_counts(speaker: &mut TraceSpeaker<'_>) -> Counts
-    ensures { result ≡ counts_behind speaker.old }
-{
-    let counts = speaker.reckoned.counts;
-    let passed = let_all_go_and_count(&mut speaker.connections, counts.passed);
-    Counts {
-        passed: let_all_go_and_count(&mut speaker.associations, passed),
-        ..counts
-    }
-}
 
 /// Writes what ends the text of a capture: its fault, if it has one, and what a check counts.
 fn write_fault_and_counts<W: Write>(

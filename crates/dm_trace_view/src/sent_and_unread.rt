@@ -6,7 +6,7 @@ ghost use Rattle.dm_trace_view.specs.Traces.{counted_sent, with_unread, unread_i
 ghost use Rattle.dm_trace_view.specs.Traces.{lost_between, passed_text, secured_text, unread_text, SaysSent};
 
 use crate::counts::Counts;
-use crate::handed_messages::hand_out_and_put_messages;
+use crate::handed_messages::hand_out_messages_and_put_passing;
 use crate::let_go_connections::let_go_and_put_excess_connections;
 use crate::lost::{Lost, LostIn, put_lost};
 use crate::packet_context::{Hearing, Reckoned};
@@ -71,7 +71,7 @@ fn unread_octets_of<C: TwoWay>(connection: Option<&C>) -> Unread
     match connection {
         Some(connection) => Unread {
             passed: connection.octets_passed_over(),
-            secured: connection.octets_secured(),
+            secured: connection.octets_of_dtls(),
         },
         None => NONE_UNREAD,
     }
@@ -159,9 +159,9 @@ fn put_unread_octets(
     Ok(())
 }
 
-/// Gives what is sent to its connection, where that is looked at, and says the messages that it hands out then, and
-/// what is lost.
-pub(crate) fn take_and_say_sent<S: Copy, C: Takes<S>>(
+/// Gives what is sent to its connection, where that is held or one to look at, and says the messages that it hands out
+/// then, and what is lost; else it does nothing.
+pub(crate) fn say_sent_if_held_or_wanted<S: Copy, C: Takes<S>>(
     alloc: Global,
     text: &mut String,
     dictionary: &Dictionary,
@@ -176,15 +176,15 @@ pub(crate) fn take_and_say_sent<S: Copy, C: Takes<S>>(
         dictionary.now hearing.entry (C.between sent) (C.BeginsExchange sent) (λ from to. C.TakesSent from sent to)
         connections.old before connections.new after more) }
 {
-    let between = C::ends_of(sent);
-    let held = connections.find_ends(between.first, between.second);
+    let between = C::sender_and_receiver_of(sent);
+    let held = connections.find_held_ends(between.first, between.second);
     let ago = unread_octets_of_held(connections, held);
     let Some(ends) = connections.take_if_held_or_wanted(hearing.looks.choice, sent)? else {
         return Ok(before);
     };
     let direction = hearing.direction_between(between, ends);
     let saying = hearing.task_and_filter();
-    let numbered = hand_out_and_put_messages(
+    let numbered = hand_out_messages_and_put_passing(
         alloc,
         text,
         dictionary,

@@ -4,15 +4,16 @@ ghost use Rattle.std.specs.String.{string_bytes};
 ghost use Rattle.dm_capture.specs.Packets.{captured_of};
 ghost use Rattle.dm_flows.specs.Sctps.{sctp_seen};
 ghost use Rattle.dm_flows.specs.Tcps.{segment_seen};
-ghost use Rattle.dm_trace_view.specs.Captures.{trace_begun};
+ghost use Rattle.dm_trace_view.specs.Captures.{counts_behind, trace_begun};
 ghost use Rattle.dm_trace_view.specs.Traces.{counted_passed, hearing_of, carries_other, with_passed};
 ghost use Rattle.dm_trace_view.specs.Traces.{SaysSegment, SaysSctp, SaysOther};
 
 use crate::counts::Counts;
 use crate::handed_messages::Numbered;
+use crate::let_go_connections::let_all_go_and_count_pending;
 use crate::looks::Looks;
 use crate::packet_context::{Hearing, Reckoned};
-use crate::sent_and_unread::take_and_say_sent;
+use crate::sent_and_unread::say_sent_if_held_or_wanted;
 use crate::speaker::PacketSpeaker;
 use crate::times::first_known_time;
 use dm_associations::Associations;
@@ -64,6 +65,18 @@ pub(crate) fn new_trace_speaker<'a>(
             },
         },
     })
+}
+
+/// What was counted, with the octets as passed over that came and weren't handed out. It lets all connections go.
+pub(crate) fn let_all_go_and_take_counts(speaker: &mut TraceSpeaker<'_>) -> Counts
+    ensures { result ≡ counts_behind speaker.old }
+{
+    let counts = speaker.reckoned.counts;
+    let passed = let_all_go_and_count_pending(&mut speaker.connections, counts.passed);
+    Counts {
+        passed: let_all_go_and_count_pending(&mut speaker.associations, passed),
+        ..counts
+    }
 }
 
 /// The counts with one more packet that has neither a segment nor chunks: a fragment, or one that was captured in part.
@@ -124,7 +137,7 @@ impl<'a> TraceSpeaker<'a> {
     {
         let hearing = self.packet_context(task, packet, Transport::Tcp);
         let before = self.reckoned;
-        self.reckoned = take_and_say_sent(
+        self.reckoned = say_sent_if_held_or_wanted(
             alloc,
             text,
             dictionary,
@@ -153,7 +166,7 @@ impl<'a> TraceSpeaker<'a> {
     {
         let hearing = self.packet_context(task, packet, Transport::Sctp);
         let before = self.reckoned;
-        self.reckoned = take_and_say_sent(
+        self.reckoned = say_sent_if_held_or_wanted(
             alloc,
             text,
             dictionary,

@@ -19,7 +19,9 @@ ghost use Rattle.dm_two_peers.specs.Sharing.{QuietIsShared};
 ghost use Rattle.dm_two_peers.specs.Streams.{HappeningKeepsCut, EachRunIsCut, EachPieceAddsUp, EachLossAddsUp};
 ghost use Rattle.dm_two_peers.specs.Talkers.{TalkersAreElecting, TwoTalks};
 
-use dm_machine::laws::{each_connection_changes_as_allowed, each_step_keeps_shape};
+use dm_machine::laws::{
+    connection_changes_and_orders_are_allowed, steps_keep_shape_in_few_commands,
+};
 
 /// Two closed peers without links make a sound world.
 pub fn closed_peers_make_a_sound_world<P, M>()
@@ -30,8 +32,8 @@ pub fn closed_peers_make_a_sound_world<P, M>()
 pub fn each_happening_keeps_worlds_sound<P, M>()
     ensures { HappeningKeepsSound P M }
 {
-    each_connection_changes_as_allowed();
-    each_step_keeps_shape();
+    connection_changes_and_orders_are_allowed();
+    steps_keep_shape_in_few_commands();
 }
 
 /// In a sound world two peers agree, and what one holds the other holds, or is told of.
@@ -44,8 +46,8 @@ pub fn closed_peers_agree_after_each_run<P, M>()
     ensures { EachRunIsPromised P M }
 {
     closed_peers_make_a_sound_world::<P, M>();
-    each_connection_changes_as_allowed();
-    each_step_keeps_shape();
+    connection_changes_and_orders_are_allowed();
+    steps_keep_shape_in_few_commands();
 }
 
 /// After every list of happenings, losses and restarts too, what a side's user was handed up on a link is a front of
@@ -57,8 +59,8 @@ pub fn each_run_delivers_in_order<P, M>()
     ensures { EachRunDelivers P M }
 {
     closed_peers_make_a_sound_world::<P, M>();
-    each_connection_changes_as_allowed();
-    each_step_keeps_shape();
+    connection_changes_and_orders_are_allowed();
+    steps_keep_shape_in_few_commands();
 }
 
 /// What two closed peers that send what is submitted and hand up what comes (`CarriesMessages`) hand up at an event of
@@ -68,8 +70,8 @@ pub fn each_run_hands_up_only_arrivals<P, M>()
     ensures { EachRunHandsUpWhatCame P M }
 {
     closed_peers_make_a_sound_world::<P, M>();
-    each_connection_changes_as_allowed();
-    each_step_keeps_shape();
+    connection_changes_and_orders_are_allowed();
+    steps_keep_shape_in_few_commands();
 }
 
 /// A clean run (of Starts, Acks, deliveries and pieces alone) of two closed peers, from where nothing is under way,
@@ -80,21 +82,21 @@ pub fn each_run_hands_up_only_arrivals<P, M>()
 /// connection that the election keeps.
 ///
 /// `C` is what a peer is configured with, `H` the header of a message.
-pub fn each_clean_run_keeps_its_course<P, M, C, H>()
+pub fn clean_runs_settle_as_elected<P, M, C, H>()
     ensures { EachCleanRunSettles P M C H }
 {}
 
 /// A clean run (of Starts, Acks, deliveries and pieces alone) of two closed peers, from where nothing is under way,
 /// falls quiet, in whatever order things come: it is quiet where no Ack and no delivery is done any more, after nine
 /// steps, and where one side alone starts after four. A piece that ends no message is no step.
-pub fn each_clean_run_falls_quiet<P, M, C, H>()
+pub fn clean_runs_fall_quiet<P, M, C, H>()
     ensures { EachCleanRunFallsQuiet P M C H }
 {}
 
 /// A clean run (of Starts, Acks, deliveries and pieces alone) of two closed peers, from where nothing is under way, can
-/// fall quiet: after some Acks and deliveries, with its own steps nine at most, nothing is under way, and both are open
-/// on the connection that the election keeps.
-pub fn each_clean_run_can_fall_quiet<P, M, C, H>()
+/// fall quiet: after some Acks and deliveries, with its own steps nine at most, nothing is under way, and where a Start
+/// was taken both are open on the connection that the election keeps.
+pub fn clean_runs_can_settle_as_elected<P, M, C, H>()
     ensures { EachCleanRunCanFallQuiet P M C H }
 {}
 
@@ -124,8 +126,8 @@ pub fn each_quiet_run_is_closed_or_open<P, M>()
     ensures { EachQuietRunIsClosedOrOpen P M }
 {
     closed_peers_make_a_sound_world::<P, M>();
-    each_connection_changes_as_allowed();
-    each_step_keeps_shape();
+    connection_changes_and_orders_are_allowed();
+    steps_keep_shape_in_few_commands();
 }
 
 /// A side that wins its elections doesn't come to Wait-Returns (RFC 6733, 5.6.4).
@@ -167,7 +169,7 @@ pub fn only_acks_make_ends_fresh<P, M>()
 /// It makes no difference how messages were cut: a piece that ends no message changes nothing but the octets
 /// delivered, one that ends its message is the delivery, and a loss is the one of whole messages, in its effect and in
 /// what it puts in too. A piece counts as a step just where it ends its message.
-pub fn pieces_add_up_to_messages<P, M>()
+pub fn cutting_messages_makes_no_difference<P, M>()
     ensures pieces { EachPieceAddsUp P M }
     ensures counts { EachPieceCounts P M }
     ensures losses { EachLossAddsUp P M }
@@ -190,6 +192,6 @@ pub fn numbered_machine_makes_electing_peers()
 {}
 
 /// What the definitions say of two clean runs: what each puts in, and which link is kept.
-pub fn sample_clean_runs_keep_their_course()
+pub fn sample_clean_runs_settle_as_elected()
     ensures { TwoTalks }
 {}

@@ -120,11 +120,12 @@ fn are_all_visible(octets: &[u8]) -> bool
 fn looks_like_uri(octets: &[u8]) -> bool
     ensures { result ≡ is_uri octets.now }
 {
-    is_visible_behind_scheme(b"aaa://", octets) || is_visible_behind_scheme(b"aaas://", octets)
+    has_scheme_and_nonempty_visible_rest(b"aaa://", octets)
+        || has_scheme_and_nonempty_visible_rest(b"aaas://", octets)
 }
 
 /// Whether the octets are the scheme and at least one visible octet.
-fn is_visible_behind_scheme(scheme: &[u8], octets: &[u8]) -> bool
+fn has_scheme_and_nonempty_visible_rest(scheme: &[u8], octets: &[u8]) -> bool
     ensures { result ≡ is_under scheme.now octets.now }
 {
     match octets.strip_prefix(scheme) {

@@ -30,8 +30,8 @@ pub fn utc_date(seconds: u32) -> Utc
 {
     let instant = seconds_since_1900(seconds);
     let time = (instant % 86_400) as u32;
-    let (year, of_year) = year_and_day_of_year((instant / 86_400) as u32);
-    let (month, of_month) = month_and_day_of_month(year, of_year);
+    let (year, of_year) = year_and_days_into_year((instant / 86_400) as u32);
+    let (month, of_month) = month_and_days_into_month(year, of_year);
     Utc {
         year,
         month,
@@ -42,7 +42,7 @@ pub fn utc_date(seconds: u32) -> Utc
     }
 }
 
-/// The seconds since 1900.
+/// The seconds since 1900 that the 32 bits of a Time tell: without the top bit they count on from 2036.
 fn seconds_since_1900(seconds: u32) -> u64
     ensures { result ≡ from_1900 seconds }
 {
@@ -54,7 +54,7 @@ fn seconds_since_1900(seconds: u32) -> u64
 }
 
 /// The year of the day so many days after 1900-01-01, and how many days of that year come before it.
-fn year_and_day_of_year(days: u32) -> (u32, u32)
+fn year_and_days_into_year(days: u32) -> (u32, u32)
     ensures { result ≡ year_at days }
 {
     let mut left = days;
@@ -69,7 +69,7 @@ fn year_and_day_of_year(days: u32) -> (u32, u32)
 }
 
 /// The month of the day so many days after the first of the year, and how many days of that month come before it.
-fn month_and_day_of_month(year: u32, days: u32) -> (u32, u32)
+fn month_and_days_into_month(year: u32, days: u32) -> (u32, u32)
     ensures { result ≡ month_at year days }
 {
     let mut left = days;

@@ -26,12 +26,12 @@ pub fn octets_of_values_have_no_fault()
 {}
 
 /// No octets below the least length of their type have a value, and some of that length do.
-pub fn no_value_is_below_the_least_length()
+pub fn shortest_values_have_the_least_length()
     ensures { EachLeastLength }
 {}
 
 /// What `flaw` answers for octets of a type is their fault, or that they have a value (7.1.5).
-pub fn flaw_is_fault_or_none()
+pub fn flaw_decides_fault_or_value()
     ensures { FlawDecides }
 {
     members_are_what_octets_spell();
@@ -41,7 +41,7 @@ pub fn flaw_is_fault_or_none()
 pub fn octets_have_a_value_or_a_fault()
     ensures { ValueOrFault }
 {
-    flaw_is_fault_or_none();
+    flaw_decides_fault_or_value();
 }
 
 /// The value that octets of a type mean is `value_in` of them: what reads it answers that, and what shows it shows

@@ -1,4 +1,4 @@
-//! Addresses and values as text.
+//! Addresses and values as text, and IP addresses as std has them.
 ghost use Rattle.std.specs.Prelude.{◌≡◌, Some};
 ghost use Rattle.dm_value.specs.Printed.{ip_words, ip_text, address_text, name_text, value_text, IsAddressOf};
 

@@ -82,8 +82,8 @@ fn read_address(alloc: Global, octets: &[u8]) -> Result<Address, AllocError>
     ensures memory { OnErr result (HoldsOctets AvpType.Address octets.now) }
 {
     match BigEndian::read_u16(octets) {
-        1 => Ok(Address::Ip(Ip::V4(read_ipv4_octets(octets)))),
-        2 => Ok(Address::Ip(Ip::V6(read_ipv6_octets(octets)))),
+        1 => Ok(Address::Ip(Ip::V4(read_ipv4_behind_family(octets)))),
+        2 => Ok(Address::Ip(Ip::V6(read_ipv6_behind_family(octets)))),
         family => Ok(Address::Other(family, Octets::from_slice(alloc, &octets[2..])?)),
     }
 }
@@ -113,7 +113,7 @@ fn read_text(alloc: Global, octets: &[u8]) -> Result<Text, ValueFault>
 }
 
 /// The four octets behind the family.
-fn read_ipv4_octets(octets: &[u8]) -> [u8; 4]
+fn read_ipv4_behind_family(octets: &[u8]) -> [u8; 4]
     requires { length octets.now ≡ 6 }
     ensures at { result ≡ drop 2 octets.now }
 {
@@ -123,7 +123,7 @@ fn read_ipv4_octets(octets: &[u8]) -> [u8; 4]
 }
 
 /// The sixteen octets behind the family.
-fn read_ipv6_octets(octets: &[u8]) -> [u8; 16]
+fn read_ipv6_behind_family(octets: &[u8]) -> [u8; 16]
     requires { length octets.now ≡ 18 }
     ensures at { result ≡ drop 2 octets.now }
 {

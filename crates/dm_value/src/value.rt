@@ -1,5 +1,5 @@
-//! The values of AVPs (RFC 6733, 4.2 to 4.4).
-use crate::{Address, Text};
+//! The values of AVPs, each of one type (RFC 6733, 4.2 to 4.4).
+use crate::{Address, AvpType, Text};
 use dm_wire::{AvpList, Octets};
 
 /// The value of an AVP: one variant for each type (RFC 6733, 4.2 to 4.4).
@@ -29,4 +29,29 @@ pub enum Value {
     Enumerated(i32),
     /// Grouped: the AVPs in order.
     Group(AvpList),
+}
+
+impl Value {
+    ghost use Rattle.std.specs.Prelude.{◌≡◌};
+    ghost use Rattle.dm_value.specs.Meaning.{type_of};
+
+    /// The type of which the value is (RFC 6733, 4.2 to 4.4).
+    pub fn avp_type(&self) -> AvpType
+        ensures { result ≡ type_of self.now }
+    {
+        match self {
+            Value::Bytes(_) => AvpType::OctetString,
+            Value::Int32(_) => AvpType::Integer32,
+            Value::Int64(_) => AvpType::Integer64,
+            Value::Uint32(_) => AvpType::Unsigned32,
+            Value::Uint64(_) => AvpType::Unsigned64,
+            Value::Addr(_) => AvpType::Address,
+            Value::Time(_) => AvpType::Time,
+            Value::Text(_) => AvpType::UTF8String,
+            Value::Identity(_) => AvpType::DiameterIdentity,
+            Value::Uri(_) => AvpType::DiameterURI,
+            Value::Enumerated(_) => AvpType::Enumerated,
+            Value::Group(_) => AvpType::Grouped,
+        }
+    }
 }

@@ -1,35 +1,15 @@
-//! A value as the data of an AVP, its type, and copies of values.
+//! A value as the data of an AVP, and copies of values.
 ghost use Rattle.std.specs.Prelude.{◌≡◌, ◌≢◌, ◌↔◌, false, IfOk, Err, IsErrOf, List};
 ghost use Rattle.dm_wire.specs.declared.avp.Avp.{Avp};
 ghost use Rattle.dm_wire.specs.Canonical.{canonical_list};
 ghost use Rattle.dm_value.specs.Meaning.{Means, type_of, HasNoOctets, HasLongMember};
 ghost use Rattle.dm_value.specs.declared.value.Value.{Value};
 
-use crate::{AvpType, Value, ValueFault, write_value};
+use crate::{Value, ValueFault, write_value};
 use dm_wire::{Avp, Octets};
 use std::alloc::{AllocError, Global};
 
 impl Value {
-    /// The type of which the value is (RFC 6733, 4.2 to 4.4).
-    pub fn avp_type(&self) -> AvpType
-        ensures { result ≡ type_of self.now }
-    {
-        match self {
-            Value::Bytes(_) => AvpType::OctetString,
-            Value::Int32(_) => AvpType::Integer32,
-            Value::Int64(_) => AvpType::Integer64,
-            Value::Uint32(_) => AvpType::Unsigned32,
-            Value::Uint64(_) => AvpType::Unsigned64,
-            Value::Addr(_) => AvpType::Address,
-            Value::Time(_) => AvpType::Time,
-            Value::Text(_) => AvpType::UTF8String,
-            Value::Identity(_) => AvpType::DiameterIdentity,
-            Value::Uri(_) => AvpType::DiameterURI,
-            Value::Enumerated(_) => AvpType::Enumerated,
-            Value::Group(_) => AvpType::Grouped,
-        }
-    }
-
     /// An AVP of this code, vendor and M bit with the value as its data, without the P bit; or the refusals of
     /// `write_value` (RFC 6733, 4.1).
     pub fn to_avp(

@@ -1,4 +1,4 @@
-//! Values to octets (RFC 6733, 4.2 to 4.4).
+//! Values to octets, and which values no octets have (RFC 6733, 4.2 to 4.4).
 ghost use Rattle.std.specs.Prelude.{◌≡◌, ◌≢◌, ◌⊎◌, ◌↔◌, ◌^◌, ◌<◌, ◌++◌, List, IfOk, IfErr, IsErrOf, IsTrue};
 ghost use Rattle.byteorder.specs.Endian.{big_number};
 ghost use Rattle.dm_wire.specs.declared.avp.Avp.{Avp};
@@ -47,7 +47,7 @@ fn is_misshapen(value: &Value) -> bool
     ensures { IsTrue result ↔ IsMisshapen value.now }
 {
     match value {
-        Value::Addr(address) => is_ip_given_as_other(address),
+        Value::Addr(address) => is_other_of_ip_family(address),
         Value::Identity(name) => {
             value_fault(AvpType::DiameterIdentity, name.as_slice()).is_some()
         }
@@ -57,7 +57,7 @@ fn is_misshapen(value: &Value) -> bool
 }
 
 /// Whether the address is given as of another family, but of family 1 or 2.
-fn is_ip_given_as_other(address: &Address) -> bool
+fn is_other_of_ip_family(address: &Address) -> bool
     ensures { IsTrue result ↔ IsMisshapen (Value.Addr address.now) }
 {
     match address {

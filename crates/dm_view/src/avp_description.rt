@@ -9,7 +9,7 @@ ghost use Rattle.dm_view.specs.View.{front_view};
 ghost use Rattle.dm_view.specs.Described.{defined_described, member_described, group_described, avp_described};
 
 use crate::avps::GROUPS_SHOWN;
-use crate::described_data::write_data;
+use crate::described_data::write_spaced_data;
 use dm_dict::{AvpDef, AvpType, Dictionary};
 use dm_value::Name;
 use dm_wire::{Avp, AvpFront, AvpRef, AvpsRef, Data, spells_avps};
@@ -89,14 +89,15 @@ fn write_avp<W: fmt::Write>(
         return write!(f, " {}", Data(avp.bytes));
     };
     if let AvpType::Grouped = def.kind {
-        return write_group_data(f, dictionary, avp.bytes, depth);
+        return write_spaced_group_data(f, dictionary, avp.bytes, depth);
     }
-    write_data(f, def, avp.bytes)
+    write_spaced_data(f, def, avp.bytes)
 }
 
-/// Writes the members of a group between braces, where so many groups may stand inside each other.
+/// Writes the members of a group between braces, where so many groups may stand inside each other, or its octets behind
+/// `too deep` where none may, and behind `wrong length` where they spell no AVPs; a space before each.
 #[cycle(describing)]
-fn write_group_data<W: fmt::Write>(
+fn write_spaced_group_data<W: fmt::Write>(
     f: &mut fmt::Formatter<W>,
     dictionary: &Dictionary,
     octets: &[u8],
@@ -112,13 +113,13 @@ fn write_group_data<W: fmt::Write>(
         return write!(f, " wrong length {}", Data(octets));
     }
     f.write_str(" {")?;
-    write_members(f, dictionary, AvpsRef::Spelled(octets), depth - 1)?;
+    write_spaced_avps_and_semicolons(f, dictionary, AvpsRef::Spelled(octets), depth - 1)?;
     f.write_str(" }")
 }
 
 /// Writes an AVP of a group behind a space and before `;`, inside which so many groups may stand.
 #[cycle(describing)]
-fn write_member<W: fmt::Write>(
+fn write_spaced_avp_and_semicolon<W: fmt::Write>(
     f: &mut fmt::Formatter<W>,
     dictionary: &Dictionary,
     avp: AvpRef<'_>,
@@ -132,9 +133,10 @@ fn write_member<W: fmt::Write>(
     f.write_str(";")
 }
 
-/// Writes the AVPs of a group, inside each of which so many groups may stand.
+/// Writes the AVPs of a group, each behind a space and before `;`, inside each of which so many groups may stand.
+/// Octets that spell none end them untold: the caller looks for those first.
 #[cycle(describing)]
-fn write_members<W: fmt::Write>(
+fn write_spaced_avps_and_semicolons<W: fmt::Write>(
     f: &mut fmt::Formatter<W>,
     dictionary: &Dictionary,
     list: AvpsRef<'_>,
@@ -145,7 +147,7 @@ fn write_members<W: fmt::Write>(
 {
     let mut left = list;
     while let Some((avp, rest)) = left.split_first() {
-        write_member(f, dictionary, avp, depth)?;
+        write_spaced_avp_and_semicolon(f, dictionary, avp, depth)?;
         left = rest;
     }
     Ok(())

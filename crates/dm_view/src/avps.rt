@@ -9,7 +9,7 @@ ghost use Rattle.dm_dict.specs.Rules.{definition};
 ghost use Rattle.dm_view.specs.View.{avp_name, front_view, avp_view, avps_view, group_view};
 
 use crate::code_and_flags::put_code_vendor_and_flags;
-use crate::data::put_data;
+use crate::data::put_spaced_data;
 use crate::texts_and_numbers::{put_indent, put_name_or_hexadecimal, put_words_and_hexadecimal};
 use dm_dict::{AvpDef, AvpType, Dictionary};
 use dm_wire::{AvpRef, AvpsRef, spells_avps};
@@ -78,7 +78,7 @@ fn put_avp(
     if let AvpType::Grouped = def.kind {
         return put_group_data(text, dictionary, avp.bytes, depth, level + 1);
     }
-    put_data(text, def, avp.bytes)?;
+    put_spaced_data(text, def, avp.bytes)?;
     text.push_str("\n")
 }
 

@@ -78,8 +78,8 @@ pub(crate) fn put_address(text: &mut String, octets: &[u8]) -> Result<(), AllocE
     }
 }
 
-/// Appends a value of type Time: its seconds since 1970, and the date and time of day.
-fn put_time(text: &mut String, seconds: u32) -> Result<(), AllocError>
+/// Appends a value of type Time, which is in seconds since 1900: its seconds since 1970, and the date and time of day.
+fn put_unix_seconds_and_date(text: &mut String, seconds: u32) -> Result<(), AllocError>
     ensures { OnOk result (string_bytes text.new ≡ string_bytes text.old ++ time_text seconds) }
 {
     put_signed_number(text, unix_seconds(seconds))?;
@@ -117,7 +117,7 @@ fn put_value(text: &mut String, def: &AvpDef, octets: &[u8]) -> Result<(), Alloc
         AvpType::Unsigned32 => put_unsigned_number(text, u64::from(BigEndian::read_u32(octets))),
         AvpType::Unsigned64 => put_unsigned_number(text, BigEndian::read_u64(octets)),
         AvpType::Address => put_address(text, octets),
-        AvpType::Time => put_time(text, BigEndian::read_u32(octets)),
+        AvpType::Time => put_unix_seconds_and_date(text, BigEndian::read_u32(octets)),
         AvpType::UTF8String => put_text_value(text, octets),
         AvpType::DiameterIdentity => put_identity_value(text, octets),
         AvpType::DiameterURI => put_name_or_hexadecimal(text, octets),
@@ -142,7 +142,7 @@ pub(crate) fn flaw_words(fault: ValueFault) -> &'static str
 }
 
 /// Appends what is wrong with data, and the data in hexadecimal, a space before each.
-fn put_flaw_and_hexadecimal(
+fn put_spaced_flaw_and_hexadecimal(
     text: &mut String,
     fault: ValueFault,
     octets: &[u8],
@@ -155,41 +155,50 @@ fn put_flaw_and_hexadecimal(
     put_words_and_hexadecimal(text, " ", octets)
 }
 
-/// Appends the data of a UTF8String: its value, or what is wrong with it and its octets. Escape-free octets aren't
-/// checked.
-fn put_text_data(text: &mut String, def: &AvpDef, octets: &[u8]) -> Result<(), AllocError>
+/// Appends the data of a UTF8String, a space before it: its value, or what is wrong with it and its octets. Escape-free
+/// octets aren't checked.
+fn put_spaced_text_data(text: &mut String, def: &AvpDef, octets: &[u8]) -> Result<(), AllocError>
     requires { def.now.kind ≡ AvpType.UTF8String }
     ensures { OnOk result (string_bytes text.new ≡ string_bytes text.old ++ data_view def.now octets.now) }
 {
     if are_escape_free_ascii(octets, b' ') {
         return put_utf8_between(text, " \"", octets, "\"");
     }
-    put_value_or_flaw(text, def, octets)
+    put_spaced_value_or_flaw(text, def, octets)
 }
 
-/// Appends the data of a DiameterIdentity: its value, or what is wrong with it and its octets. Escape-free octets
-/// aren't checked.
-fn put_identity_data(text: &mut String, def: &AvpDef, octets: &[u8]) -> Result<(), AllocError>
+/// Appends the data of a DiameterIdentity, a space before it: its value, or what is wrong with it and its octets.
+/// Escape-free octets aren't checked.
+fn put_spaced_identity_data(
+    text: &mut String,
+    def: &AvpDef,
+    octets: &[u8],
+) -> Result<(), AllocError>
     requires { def.now.kind ≡ AvpType.DiameterIdentity }
     ensures { OnOk result (string_bytes text.new ≡ string_bytes text.old ++ data_view def.now octets.now) }
 {
     if octets.is_empty() {
-        return put_value_or_flaw(text, def, octets);
+        return put_spaced_value_or_flaw(text, def, octets);
     }
     if are_escape_free_ascii(octets, b'!') {
         return put_utf8_between(text, " ", octets, "");
     }
-    put_value_or_flaw(text, def, octets)
+    put_spaced_value_or_flaw(text, def, octets)
 }
 
-/// Appends the data of an AVP of this definition: its value, or what is wrong with it and its octets.
+/// Appends the data of an AVP of this definition, a space before it: its value, or what is wrong with it and its
+/// octets.
 #[tactic(auto, unfolding(crate::specs::View::data_view))]
-fn put_value_or_flaw(text: &mut String, def: &AvpDef, octets: &[u8]) -> Result<(), AllocError>
+fn put_spaced_value_or_flaw(
+    text: &mut String,
+    def: &AvpDef,
+    octets: &[u8],
+) -> Result<(), AllocError>
     requires { def.now.kind ≢ AvpType.Grouped }
     ensures { OnOk result (string_bytes text.new ≡ string_bytes text.old ++ data_view def.now octets.now) }
 {
     match value_fault(def.kind, octets) {
-        Some(fault) => put_flaw_and_hexadecimal(text, fault, octets),
+        Some(fault) => put_spaced_flaw_and_hexadecimal(text, fault, octets),
         None => {
             text.push_str(" ")?;
             put_value(text, def, octets)
@@ -197,16 +206,20 @@ fn put_value_or_flaw(text: &mut String, def: &AvpDef, octets: &[u8]) -> Result<(
     }
 }
 
-/// Appends the data of an AVP of this definition.
-pub(crate) fn put_data(text: &mut String, def: &AvpDef, octets: &[u8]) -> Result<(), AllocError>
+/// Appends the data of an AVP of this definition, a space before it.
+pub(crate) fn put_spaced_data(
+    text: &mut String,
+    def: &AvpDef,
+    octets: &[u8],
+) -> Result<(), AllocError>
     requires { def.now.kind ≢ AvpType.Grouped }
     ensures { OnOk result (string_bytes text.new ≡ string_bytes text.old ++ data_view def.now octets.now) }
 {
     if let AvpType::UTF8String = def.kind {
-        return put_text_data(text, def, octets);
+        return put_spaced_text_data(text, def, octets);
     }
     if let AvpType::DiameterIdentity = def.kind {
-        return put_identity_data(text, def, octets);
+        return put_spaced_identity_data(text, def, octets);
     }
-    put_value_or_flaw(text, def, octets)
+    put_spaced_value_or_flaw(text, def, octets)
 }

@@ -18,9 +18,9 @@ use dm_value::Name;
 use dm_wire::{Data, Octets};
 use std::{fmt, str};
 
-/// Writes the data of an AVP of this definition.
+/// Writes the data of an AVP of this definition, a space before it.
 #[tactic(auto, unfolding(crate::specs::View::data_view))]
-pub(crate) fn write_data<W: fmt::Write>(
+pub(crate) fn write_spaced_data<W: fmt::Write>(
     f: &mut fmt::Formatter<W>,
     def: &AvpDef,
     octets: &[u8],
@@ -51,7 +51,7 @@ fn write_value<W: fmt::Write>(f: &mut fmt::Formatter<W>, def: &AvpDef, octets: &
         AvpType::Unsigned32 => write!(f, "{}", BigEndian::read_u32(octets)),
         AvpType::Unsigned64 => write!(f, "{}", BigEndian::read_u64(octets)),
         AvpType::Address => write_address(f, octets),
-        AvpType::Time => write_time(f, BigEndian::read_u32(octets)),
+        AvpType::Time => write_unix_seconds_and_date(f, BigEndian::read_u32(octets)),
         AvpType::UTF8String => write_text_value(f, octets),
         AvpType::DiameterIdentity | AvpType::DiameterURI => write_identity_or_uri(f, octets),
         AvpType::Enumerated => {
@@ -75,8 +75,11 @@ fn write_address<W: fmt::Write>(f: &mut fmt::Formatter<W>, octets: &[u8]) -> fmt
     }
 }
 
-/// Writes the seconds since 1970, and the date and time of day.
-fn write_time<W: fmt::Write>(f: &mut fmt::Formatter<W>, seconds: u32) -> fmt::Result
+/// Writes a value of type Time, which is in seconds since 1900: its seconds since 1970, and the date and time of day.
+fn write_unix_seconds_and_date<W: fmt::Write>(
+    f: &mut fmt::Formatter<W>,
+    seconds: u32,
+) -> fmt::Result
     ensures { WritesOnOk W.Write.write_str_gives f.old result (time_text seconds) f.new }
 {
     write!(f, "{} {}", unix_seconds(seconds), utc_date(seconds))

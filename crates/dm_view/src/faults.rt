@@ -15,7 +15,7 @@ ghost use Rattle.dm_view.specs.Check.{failed_view, fault_line, verdict_words, ar
 use crate::avps::{put_avp_name, put_avp_without_data};
 use crate::header::put_header_line;
 use crate::reasons::{Reason, ReasonBehind};
-use crate::results::result_code_name;
+use crate::results::result_name_or_placeholder;
 use crate::texts_and_numbers::put_words_and_number;
 use dm_dict::codes::MISSING_AVP;
 use dm_dict::{AvpDef, Dictionary, Failed, LocatedFault, NoMemory, Step};
@@ -117,12 +117,12 @@ fn put_any_failed_avp_and_reason(
 }
 
 /// Appends a Result-Code with its name, two spaces before it.
-fn put_result_code_and_name(text: &mut String, code: u32) -> Result<(), AllocError>
+fn put_indented_result_code_and_name(text: &mut String, code: u32) -> Result<(), AllocError>
     ensures { OnOk result (string_bytes text.new ≡ string_bytes text.old ++ (codes "  " ++ result_text code)) }
 {
     put_words_and_number(text, "  ", code)?;
     text.push_str(" ")?;
-    text.push_str(result_code_name(code))
+    text.push_str(result_name_or_placeholder(code))
 }
 
 /// Appends the line of a fault.
@@ -135,7 +135,7 @@ fn put_fault_line(
         ≡ string_bytes text.old ++ fault_line dictionary.now.avps (told_at fault.now)) }
 {
     let (code, failed) = (fault.fault.code, fault.fault.failed);
-    put_result_code_and_name(text, code)?;
+    put_indented_result_code_and_name(text, code)?;
     put_path(text, dictionary, fault.path.as_slice())?;
     let length = failed_avp_data_length(failed);
     put_any_failed_avp_and_reason(

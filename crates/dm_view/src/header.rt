@@ -50,7 +50,7 @@ fn spaced_flag_words(header: &Header) -> &'static str
 }
 
 /// Appends the flags of a header in words, a space before each.
-fn put_flag_words(text: &mut String, header: &Header) -> Result<(), AllocError>
+fn put_spaced_flag_words(text: &mut String, header: &Header) -> Result<(), AllocError>
     ensures { OnOk result (string_bytes text.new ≡ string_bytes text.old ++ flag_words header.now) }
 {
     text.push_str(spaced_flag_words(header))
@@ -86,7 +86,7 @@ pub fn put_header_line(
         dictionary.command(header.command, header.request, false),
     )?;
     put_words_and_number(text, " ", header.command)?;
-    put_flag_words(text, header)?;
+    put_spaced_flag_words(text, header)?;
     put_words_and_number(text, ", application ", header.application)?;
     put_words_decimal_and_hexadecimal(text, ", hop-by-hop ", header.hop_id)?;
     put_words_decimal_and_hexadecimal(text, ", end-to-end ", header.end_id)?;

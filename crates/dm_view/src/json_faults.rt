@@ -20,7 +20,7 @@ use crate::json_header::put_header_object;
 use crate::json_path::put_path_and_end_array;
 use crate::json_text::JsonText;
 use crate::reasons::Reason;
-use crate::results::result_code_name;
+use crate::results::result_name_or_placeholder;
 use dm_dict::codes::MISSING_AVP;
 use dm_dict::{AvpDef, Dictionary, LocatedFault, NoMemory};
 use dm_wire::{AvpRef, MessageRef};
@@ -64,7 +64,8 @@ fn end_fault_with_avp_and_reason(
     json.end_object()
 }
 
-/// Ends the object of a fault with its failed AVP and why that is one; with nothing where there is none.
+/// Ends the object of a fault with its failed AVP and why that is one, members `avp` and `reason`; where there is none
+/// it is just ended.
 fn end_fault_with_failed_avp_if_any(
     alloc: Global,
     json: &mut JsonText,
@@ -96,7 +97,7 @@ fn put_fault_object(
     let (code, failed) = (fault.fault.code, fault.fault.failed);
     json.begin_object()?;
     json.put_number_member("code", code)?;
-    json.put_text_member("name", result_code_name(code))?;
+    json.put_text_member("name", result_name_or_placeholder(code))?;
     json.put_key("path")?;
     json.begin_array()?;
     put_path_and_end_array(json, dictionary, fault.path.as_slice())?;

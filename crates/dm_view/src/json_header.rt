@@ -28,8 +28,8 @@ fn request_or_answer_word(header: &Header) -> &'static str
     if header.request { "request" } else { "answer" }
 }
 
-/// Appends the flags of a header in words, as an array.
-fn put_flag_words_array(json: &mut JsonText, header: &Header) -> Result<(), AllocError>
+/// Appends the flags of a header in words, as an array: the first says whether it is a request's or an answer's.
+fn put_command_flags_array(json: &mut JsonText, header: &Header) -> Result<(), AllocError>
     ensures { OnOk result (json.new ≡ json.old ++ json_tokens (header_words header.now)) }
 {
     json.begin_array()?;
@@ -41,8 +41,11 @@ fn put_flag_words_array(json: &mut JsonText, header: &Header) -> Result<(), Allo
     Ok(())
 }
 
-/// Appends the application and the identifiers of a header, and the end of its object.
-fn put_identifiers_and_end_object(json: &mut JsonText, header: &Header) -> Result<(), AllocError>
+/// Ends the object of a header with its application and its identifiers.
+fn end_header_with_application_and_identifiers(
+    json: &mut JsonText,
+    header: &Header,
+) -> Result<(), AllocError>
     ensures { OnOk result (json.new ≡ json.old ++ members_tokens (identifiers header.now)) }
 {
     json.put_printed_key_and_number("\"application\":", header.application)?;
@@ -68,7 +71,7 @@ pub fn put_header_object(
     put_command_name_or_null(json, def)?;
     json.put_number_member("code", header.command)?;
     json.put_key("flags")?;
-    put_flag_words_array(json, header)?;
-    put_identifiers_and_end_object(json, header)?;
+    put_command_flags_array(json, header)?;
+    end_header_with_application_and_identifiers(json, header)?;
     Ok(())
 }

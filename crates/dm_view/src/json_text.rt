@@ -1,4 +1,5 @@
-//! A text in JSON, a token at a time (RFC 8259), and members of an AVP whose keys are printed as they stand here.
+//! A text in JSON, a token at a time (RFC 8259), octets, addresses and dates as strings, and members of an AVP whose
+//! keys are printed as they stand here.
 ghost use Rattle.std.specs.Prelude.{◌≡◌, ◌++◌, ◌∷◌, ℕ, List, [], None, codes, OnOk};
 ghost use Rattle.std.specs.Fmt.{decimal, signed_decimal};
 ghost use Rattle.std.specs.String.{string_bytes};

@@ -12,8 +12,8 @@ use std::fmt;
 #[derive(Clone, Copy)]
 pub struct ResultName(pub u32);
 
-/// The name of a Result-Code of a fault of AVPs; `Result-Code` for any other.
-fn avp_result_code_name(code: u32) -> &'static str
+/// The name of a Result-Code of a fault of AVPs; the placeholder `Result-Code` for any other.
+fn avp_result_name_or_placeholder(code: u32) -> &'static str
     ensures { result.now ≡ avp_result code }
 {
     match code {
@@ -27,14 +27,14 @@ fn avp_result_code_name(code: u32) -> &'static str
     }
 }
 
-/// The name of a Result-Code of a fault; `Result-Code` for any other.
-pub(crate) fn result_code_name(code: u32) -> &'static str
+/// The name of a Result-Code of a fault; the placeholder `Result-Code` for any other.
+pub(crate) fn result_name_or_placeholder(code: u32) -> &'static str
     ensures { result.now ≡ result_name code }
 {
     match code {
         COMMAND_UNSUPPORTED => "DIAMETER_COMMAND_UNSUPPORTED",
         INVALID_HDR_BITS => "DIAMETER_INVALID_HDR_BITS",
-        _ => avp_result_code_name(code),
+        _ => avp_result_name_or_placeholder(code),
     }
 }
 
@@ -45,6 +45,6 @@ impl fmt::Display for ResultName {
     ghost output = { λ name. Some (result_text name.0) };
 
     fn fmt<W: fmt::Write>(&self, f: &mut fmt::Formatter<W>) -> fmt::Result {
-        write!(f, "{} {}", self.0, result_code_name(self.0))
+        write!(f, "{} {}", self.0, result_name_or_placeholder(self.0))
     }
 }

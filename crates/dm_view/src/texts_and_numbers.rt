@@ -22,7 +22,7 @@ impl fmt::Display for Quoted<'_> {
 
     #[tactic(auto, unfolding(crate::specs::Words::quoted))]
     fn fmt<W: fmt::Write>(&self, f: &mut fmt::Formatter<W>) -> fmt::Result {
-        if are_quotable(self.0.as_bytes()) {
+        if are_without_controls_and_quotes(self.0.as_bytes()) {
             write!(f, "\"{}\"", self.0)
         } else {
             write!(f, "{}", Hexadecimal(self.0.as_bytes()))
@@ -31,7 +31,7 @@ impl fmt::Display for Quoted<'_> {
 }
 
 /// Whether no octet is a control or a `"`.
-fn are_quotable(octets: &[u8]) -> bool
+fn are_without_controls_and_quotes(octets: &[u8]) -> bool
     ensures { result ≡ list_all is_plain_octet octets.now }
 {
     octets
@@ -45,7 +45,7 @@ pub(crate) fn put_quoted_or_hexadecimal(text: &mut String, octets: &[u8]) -> Res
     requires { IsUtf8 octets.now }
     ensures { OnOk result (string_bytes text.new ≡ string_bytes text.old ++ quoted octets.now) }
 {
-    if are_quotable(octets) {
+    if are_without_controls_and_quotes(octets) {
         text.push_str("\"")?;
         text.push_str(unsafe { str::from_utf8_unchecked(octets) })?;
         text.push_str("\"")

@@ -219,7 +219,7 @@ fn say_reader_lines<S: Speaker, R: BufRead, W: Write>(
 }
 
 /// Says the lines of a reader behind so many others, up to one behind which nothing more is to be said. It tells how
-/// many were said, and whether more could be said.
+/// many were said, the others among them, and whether more could be said.
 pub(crate) fn say_and_count_reader_lines<S: Speaker, R: BufRead, W: Write>(
     alloc: Global,
     dictionary: &Dictionary,

@@ -11,7 +11,7 @@ pub const FILE_LIMIT: usize = 67_108_864;
 
 /// Appends all octets that the reader gives up to its end, and a line feed where the last line lacks one. It fails
 /// where the reader does, where it gives more than [`FILE_LIMIT`] octets, and where memory is wanted.
-pub fn push_file_as_lines<R: Read + Drop>(reader: R, input: &mut Vec<u8>) -> io::Result<()>
+pub fn push_limited_file_as_lines<R: Read + Drop>(reader: R, input: &mut Vec<u8>) -> io::Result<()>
     ensures whole { OnOk result (IfSome (R.remaining reader) (λ octets. input.new.items
         ≡ ended (input.old.items ++ octets))) }
     ensures within { OnOk result (IfSome (R.remaining reader) (λ octets. length octets ≤ file_limit)) }

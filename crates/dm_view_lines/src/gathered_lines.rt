@@ -7,7 +7,7 @@ ghost use Rattle.dm_view_lines.specs.declared.gathered_lines.TheConstants.{LINE_
 
 use crate::put_fault::PutFault;
 use crate::speaker::Speaker;
-use crate::waiting_text::{Style, gather_or_write_text};
+use crate::waiting_text::{Style, gather_text_and_write_if_full};
 use dm_dict::Dictionary;
 use dm_text::Lines;
 use std::alloc::Global;
@@ -23,7 +23,7 @@ pub(crate) struct Output {
     pub waits: Vec<u8>,
 }
 
-/// The number of the next line, which is this one. It fails where the line has too many octets.
+/// The number of the next line, which is this one. It fails where the line has too many octets, or no number is left.
 fn line_number_unless_too_long(before: u64, line: &[u8]) -> Result<u64, PutFault>
     ensures next { IfOk result (λ number. number ≡ before + 1) }
     ensures within { OnOk result (length line.now ≤ line_limit) }
@@ -70,7 +70,7 @@ fn say_and_gather_line<S: Speaker, W: Write>(
         line,
         &mut output.text,
     )?;
-    gather_or_write_text(
+    gather_text_and_write_if_full(
         alloc,
         style,
         output.text.as_bytes(),

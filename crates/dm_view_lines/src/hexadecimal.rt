@@ -41,7 +41,7 @@ fn read_hex_line_by_words(
     ensures { IfOk result (λ octets. option_map (λ v. v.items) octets ≡ octets_of_line line.now) }
 {
     let words = before_comment(without_byte_order_mark(line));
-    let (word, rest) = split_first_word_by_search(words);
+    let (word, rest) = split_at_first_separator_by_search(words);
     if rest.is_empty() {
         return read_hex_word(alloc, without_0x_prefix(word));
     }
@@ -75,9 +75,9 @@ fn before_comment(line: &[u8]) -> &[u8]
     }
 }
 
-/// A word and the rest, which together have the digits of the words: the first word, and what stands behind it
-/// and one space, tab or `:`.
-fn split_first_word_by_search(words: &[u8]) -> (&[u8], &[u8])
+/// A word and the rest, which together have the digits of the words: what stands before the first space, tab or `:`, be
+/// it nothing, and what stands behind it.
+fn split_at_first_separator_by_search(words: &[u8]) -> (&[u8], &[u8])
     ensures digits { digits_of_words words.now ≡ without_prefix result.0.now ++ digits_of_words result.1.now }
     ensures less { 0 < length words.now → length result.1.now < length words.now }
 {
@@ -87,16 +87,16 @@ fn split_first_word_by_search(words: &[u8]) -> (&[u8], &[u8])
     }
 }
 
-/// A word and the rest, which together have the digits of the words, as `split_first_word_by_search` tells them. Where
-/// there are several words most have two or four digits, so a few octets are looked at one by one before the others are
-/// searched.
-fn split_first_word(words: &[u8]) -> (&[u8], &[u8])
+/// A word and the rest, which together have the digits of the words, as `split_at_first_separator_by_search` tells
+/// them. Where there are several words most have two or four digits, so a few octets are looked at one by one before
+/// the others are searched.
+fn split_at_first_separator(words: &[u8]) -> (&[u8], &[u8])
     ensures digits { digits_of_words words.now ≡ without_prefix result.0.now ++ digits_of_words result.1.now }
     ensures less { 0 < length words.now → length result.1.now < length words.now }
 {
     match find_near_separator(words) {
         Some(at) => (&words[..at], &words[at + 1..]),
-        None => split_first_word_by_search(words),
+        None => split_at_first_separator_by_search(words),
     }
 }
 
@@ -135,7 +135,7 @@ fn set_digits_of_words(words: &[u8], digits: &mut Vec<u8>) -> Result<(), AllocEr
     digits.clear();
     let mut left = words;
     'words: while !left.is_empty() {
-        let (word, rest) = split_first_word(left);
+        let (word, rest) = split_at_first_separator(left);
         digits.extend_from_slice(without_0x_prefix(word))?;
         left = rest;
     }

@@ -55,8 +55,9 @@ impl<R: Read + Drop> Inputs<R> {
         }
     }
 
-    /// Reads this one behind the others. For want of memory they are as they were.
-    pub fn push(&mut self, reader: R) -> Result<(), AllocError>
+    /// Reads this one behind the others, and a line feed behind it where its last line lacks one. For want of memory
+    /// they are as they were.
+    pub fn push_as_lines(&mut self, reader: R) -> Result<(), AllocError>
         ensures more { OnOk result (inputs_remaining R.remaining self.new
             ≡ option_append (inputs_remaining R.remaining self.old) (option_map ended (R.remaining reader))) }
         ensures kept { OnErr result (inputs_remaining R.remaining self.new ≡ inputs_remaining R.remaining self.old) }

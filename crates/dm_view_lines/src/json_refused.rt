@@ -17,7 +17,7 @@ use dm_wire::WireFault;
 use std::alloc::{AllocError, Global};
 
 /// Appends the message up to the bad AVP, as members of an object that is open; nothing where the fault is another.
-fn put_json_message_before_refusal(
+fn put_message_members_if_bad_avp(
     json: &mut JsonText,
     dictionary: &Dictionary,
     octets: &[u8],
@@ -41,7 +41,7 @@ fn put_json_message_before_refusal(
 
 /// Appends the header of a message with a bad AVP, as a member of an object that is open; nothing where the fault is
 /// another.
-fn put_json_header_before_refusal(
+fn put_header_member_if_bad_avp(
     json: &mut JsonText,
     dictionary: &Dictionary,
     octets: &[u8],
@@ -95,7 +95,7 @@ fn put_shown_refusal_object<F: Front>(
 {
     json.begin_object()?;
     front.put_front_members(alloc, json)?;
-    put_json_message_before_refusal(json, dictionary, octets, fault)?;
+    put_message_members_if_bad_avp(json, dictionary, octets, fault)?;
     put_refusal_and_end_object(alloc, json, fault)?;
     Ok(())
 }
@@ -134,7 +134,7 @@ fn put_checked_refusal_object<F: Front>(
     json.begin_object()?;
     front.put_front_members(alloc, json)?;
     put_bad_verdict_if_checked(json, true)?;
-    put_json_header_before_refusal(json, dictionary, octets, fault)?;
+    put_header_member_if_bad_avp(json, dictionary, octets, fault)?;
     put_refusal_and_end_object(alloc, json, fault)?;
     Ok(())
 }

@@ -4,8 +4,9 @@ ghost use Rattle.dm_view_lines.specs.Gathering.{LeavesNothing, LeavesInTurn};
 ghost use Rattle.dm_view_lines.specs.Joined.{JoinedSaid};
 ghost use Rattle.dm_view_lines.specs.OneText.{OneSaid, SomeSaid};
 
-/// Under one dictionary one text at most is said of an input, and it is either good or not. The law stands for users.
-pub fn at_most_one_text_is_said()
+/// Under one dictionary one text at most is said of the lines of an input, each by itself, and it is either good or
+/// not. The law stands for users.
+pub fn lines_have_at_most_one_report()
     ensures { OneSaid }
 {
     dm_wire::laws::octets_begin_with_one_message_at_most();
@@ -13,16 +14,17 @@ pub fn at_most_one_text_is_said()
     dm_wire::laws::octets_of_messages_have_no_fault();
 }
 
-/// Under each dictionary something is said of each input, and it is good or not. The law stands for users.
-pub fn each_input_has_something_said()
+/// Under each dictionary something is said of the lines of each input, each by itself, and it is good or not. The law
+/// stands for users.
+pub fn lines_always_have_a_report()
     ensures { SomeSaid }
 {
     dm_wire::laws::octets_spell_message_or_have_fault();
 }
 
-/// What is said of two inputs, the first of which ends with a line's end, is what is said of each, numbers going on.
-/// The law stands for users.
-pub fn joined_inputs_are_told_as_each()
+/// What is said of the lines of two inputs, each by itself, the first of which ends with a line's end, is what is said
+/// of each, numbers going on. The law stands for users.
+pub fn joined_lines_are_reported_as_each()
     ensures { JoinedSaid }
 {}
 

@@ -37,7 +37,7 @@ mod waiting_text;
 mod written_text;
 
 pub use colours::coloured_text;
-pub use files::{FILE_LIMIT, push_file_as_lines};
+pub use files::{FILE_LIMIT, push_limited_file_as_lines};
 pub use front::Front;
 pub use gathered_lines::LINE_LIMIT;
 pub use hexadecimal::read_hex_line;
@@ -50,5 +50,7 @@ pub use run_fault::RunFault;
 pub use run_reader::{say_lines, say_stream};
 pub use stream_lines::stream_report;
 pub use tally::{Tally, put_tally_if_checked};
-pub use waiting_text::{Style, gather_or_write_text, write_text_in_style, write_waiting_text};
+pub use waiting_text::{
+    Style, gather_text_and_write_if_full, write_text_in_style, write_waiting_text,
+};
 pub use written_text::{write_lines_report, write_stream_report};

@@ -6,7 +6,7 @@ ghost use Rattle.dm_view_lines.specs.Reasons.{refusal_words, refusal_sentence};
 use dm_wire::WireFault;
 use std::alloc::{AllocError, Global};
 
-/// Appends the Result-Code of octets that are no message, and why.
+/// Appends the Result-Code of octets that are no message, its name, and why.
 #[tactic(auto, unfolding(crate::specs::Reasons::refusal_words))]
 fn put_refusal_words(text: &mut String, fault: WireFault) -> Result<(), AllocError>
     ensures { OnOk result (string_bytes text.new ≡ string_bytes text.old ++ refusal_words fault) }
@@ -29,7 +29,7 @@ fn put_refusal_words(text: &mut String, fault: WireFault) -> Result<(), AllocErr
     Ok(())
 }
 
-/// Appends why octets are no message.
+/// Appends `no message: ` and why octets are none, without a line's end.
 fn put_refusal_sentence(text: &mut String, fault: WireFault) -> Result<(), AllocError>
     ensures { OnOk result (string_bytes text.new ≡ string_bytes text.old ++ refusal_sentence fault) }
 {

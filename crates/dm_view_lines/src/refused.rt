@@ -32,8 +32,9 @@ pub(crate) fn message_before_bad_avp(octets: &[u8], offset: usize) -> MessageRef
     }
 }
 
-/// Appends the message up to the bad AVP, in names and values, before the refusal; nothing where the fault is another.
-fn put_message_before_refusal(
+/// Appends the message up to the bad AVP, in names and values, and the indent of the refusal behind it; nothing where
+/// the fault is another.
+fn put_message_and_indent_if_bad_avp(
     text: &mut String,
     dictionary: &Dictionary,
     octets: &[u8],
@@ -57,8 +58,9 @@ fn put_message_before_refusal(
     }
 }
 
-/// Appends `bad` and the header of a message with a bad AVP, before the refusal; nothing where the fault is another.
-fn put_header_before_refusal(
+/// Appends `bad`, the header of a message with a bad AVP, and the indent of the refusal behind it; nothing where the
+/// fault is another.
+fn put_verdict_header_and_indent_if_bad_avp(
     text: &mut String,
     dictionary: &Dictionary,
     octets: &[u8],
@@ -100,7 +102,7 @@ pub(crate) fn put_shown_refusal<F: Front>(
         ++ (before_refusal (front_shown dictionary.now) octets.now fault ++ refusal_sentence fault ++ 10 ∷ []))) }
 {
     front.put_front_words(text)?;
-    put_message_before_refusal(text, dictionary, octets, fault)?;
+    put_message_and_indent_if_bad_avp(text, dictionary, octets, fault)?;
     put_refusal_line(text, fault)?;
     Ok(())
 }
@@ -118,7 +120,7 @@ pub(crate) fn put_checked_refusal<F: Front>(
         ++ (before_refusal (front_checked dictionary.now) octets.now fault ++ refusal_sentence fault ++ 10 ∷ []))) }
 {
     front.put_front_words(text)?;
-    put_header_before_refusal(text, dictionary, octets, fault)?;
+    put_verdict_header_and_indent_if_bad_avp(text, dictionary, octets, fault)?;
     put_refusal_line(text, fault)?;
     Ok(())
 }

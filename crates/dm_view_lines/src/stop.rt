@@ -1,4 +1,5 @@
-//! Why a stream is read no further, a fault of a frame among it, and how that is said (RFC 6733, 3 and 7.1.5).
+//! Why a stream is read no further, for a frame's fault, a line that is no hexadecimal or a message cut off, and how
+//! that is said (RFC 6733, 3 and 7.1.5).
 ghost use Rattle.std.specs.Prelude.{◌≡◌, ◌++◌, ◌+◌, ℕ, List, None, length, IfOk, OnOk};
 ghost use Rattle.std.specs.String.{string_bytes};
 ghost use Rattle.dm_view_lines.specs.Counts.{tallied, tally_of};

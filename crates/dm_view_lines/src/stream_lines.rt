@@ -21,7 +21,7 @@ use dm_framer::laws::{
     cuts_change_no_frames, faults_of_streams_stay, frames_in_a_row_stay_themselves,
 };
 use dm_text::Lines;
-use dm_text::laws::lines_of_parts_are_lines_of_whole;
+use dm_text::laws::octet_count_bounds_line_count;
 use dm_wire::codes::limits::MAX_MESSAGE_LEN;
 use std::alloc::Global;
 
@@ -117,7 +117,7 @@ fn put_stream_report(
         × SaysFrames task dictionary.now 1 (stream_of (lines input.now)) rest fault more read.0
         × (read.1 ≡ stop_of rest fault (bad_line 1 (lines input.now)))) }
 {
-    lines_of_parts_are_lines_of_whole();
+    octet_count_bounds_line_count();
     cuts_change_no_frames();
     faults_of_streams_stay();
     frames_in_a_row_stay_themselves();

@@ -25,7 +25,7 @@ pub struct Style {
     pub coloured: bool,
 }
 
-/// Writes what waits, and then nothing does. Where the writer fails a front of it was written.
+/// Writes what waits and flushes, and then nothing waits. Where the writer fails a front of it was written.
 pub fn write_waiting_text<W: Write>(waits: &mut Vec<u8>, writer: &mut W) -> Result<(), PutFault>
     ensures written { OnOk result (Appends (W.contents writer.old) (W.contents writer.new) waits.old.items) }
     ensures none { OnOk result (waits.new.items ≡ []) }
@@ -62,7 +62,7 @@ fn push_styled_text(
 ///
 /// Where memory is wanted nothing of the text is gathered or written. Where the writer fails a front of all was
 /// written.
-pub fn gather_or_write_text<W: Write>(
+pub fn gather_text_and_write_if_full<W: Write>(
     alloc: Global,
     style: Style,
     text: &[u8],

@@ -14,7 +14,7 @@ use dm_io::write_text_and_flush;
 use std::alloc::Global;
 use std::io::Write;
 
-/// Writes a text.
+/// Writes a text and flushes.
 fn write_plain_text<W: Write>(text: &[u8], writer: &mut W) -> Result<(), LinesFault>
     ensures written { OnOk result (Appends (W.contents writer.old) (W.contents writer.new) text.now) }
     ensures stopped { IfErr result (EndsBy (λ whole good. whole ≡ text.now) (W.contents writer.old)

@@ -1,4 +1,4 @@
-//! AVPs and headers to octets (RFC 6733, 3 and 4.1).
+//! AVPs and headers to octets, which are appended, or written in the room of a message (RFC 6733, 3 and 4.1).
 ghost use Rattle.std.specs.Prelude.{◌≡◌, ◌⊎◌, ◌↔◌, ◌^◌, ◌<◌, ◌+◌, ◌*◌, ◌/◌, ◌++◌, ◌∷◌, length, replicate};
 ghost use Rattle.std.specs.Prelude.{OnOk, IfErr, IsErrOf, IfSome, IfNone};
 ghost use Rattle.dm_wire.specs.Spelling.{be, avp_length, vendor_octets, SpellsList, SpellsHeader};

@@ -1,4 +1,4 @@
-//! Where the AVPs of octets begin (RFC 6733, 4.1).
+//! Where the AVPs of octets begin, the AVP that begins at such a place, and the first of a code (RFC 6733, 4.1).
 ghost use Rattle.std.specs.Prelude.{◌≡◌, Some, true, is_some, option_map, List, drop, slice_get};
 ghost use Rattle.std.specs.Prelude.{IfOk, IfSome, IfNone};
 ghost use Rattle.std.specs.List.{find};

@@ -1,4 +1,4 @@
-//! The AVPs of a code.
+//! The AVPs of a code and vendor in a message.
 ghost use Rattle.std.specs.Prelude.{◌≡◌, ◌<◌, ◌^◌, option_copied, filter, length};
 ghost use Rattle.std.specs.List.{find};
 ghost use Rattle.dm_wire.specs.Finding.{is_of};

@@ -20,7 +20,7 @@ pub enum AvpsRef<'a> {
 
 /// The first of the AVPs that the octets spell, and how many octets it takes; None where there are no octets, or they
 /// spell no AVPs.
-pub(crate) fn first_member(octets: &[u8]) -> Option<(AvpRef<'_>, usize)>
+pub(crate) fn first_spelled_avp(octets: &[u8]) -> Option<(AvpRef<'_>, usize)>
     ensures within { IfSome result (λ read. read.1 ≤ length octets.now) }
     ensures moves { IfSome result (λ read. 0 < read.1) }
     ensures found { IfSome result (λ read.
@@ -48,7 +48,7 @@ impl<'a> AvpsRef<'a> {
             AvpsRef::Held([first, rest @ ..]) => Some((first.borrowed(), AvpsRef::Held(rest))),
             AvpsRef::Held([]) => None,
             AvpsRef::Spelled(octets) => {
-                let Some((avp, size)) = first_member(octets) else {
+                let Some((avp, size)) = first_spelled_avp(octets) else {
                     return None;
                 };
                 Some((avp, AvpsRef::Spelled(&octets[size..])))

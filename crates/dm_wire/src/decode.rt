@@ -31,10 +31,11 @@ fn count_avps_if_few(octets: &[u8]) -> usize
     0
 }
 
-/// Copies of the AVPs at the front of the octets, pushed one after the other; true only where the octets are no more.
+/// Copies of the AVPs at the front of the octets, pushed one after the other up to the first bad one; true only where
+/// there is none.
 // (A function of its own in the machine's code too: among its caller's values the loop would lack registers.)
 #[inline(never)]
-fn push_all_decoded_avps(
+fn push_avps_up_to_bad_one(
     alloc: Global,
     avps: &mut Vec<Avp>,
     octets: &[u8],
@@ -56,14 +57,14 @@ fn copy_spelled_avps(alloc: Global, octets: &[u8]) -> Option<Vec<Avp>>
     ensures { IfSome result (λ avps. SpellsList avps.items octets.now) }
 {
     let mut avps = Vec::with_capacity(alloc, count_avps_if_few(octets)).ok()?;
-    match push_all_decoded_avps(alloc, &mut avps, octets) {
+    match push_avps_up_to_bad_one(alloc, &mut avps, octets) {
         Ok(true) => Some(avps),
         _ => None,
     }
 }
 
 /// Why no AVPs came of these octets: a bad one, or want of memory.
-fn list_fault_or_no_memory(octets: &[u8]) -> WireFault
+fn avp_list_fault_or_no_memory(octets: &[u8]) -> WireFault
     ensures { ((l : List Avp) × (result ≡ WireFault.NoMemory) × SpellsList l octets.now)
         ⊎ ((o : ℕ) × (result ≡ WireFault.AvpLength o) × IsBadAt 0 octets.now o) }
 {
@@ -154,6 +155,6 @@ pub fn decode_avps(alloc: Global, octets: &[u8]) -> Result<Vec<Avp>, WireFault>
 {
     match copy_spelled_avps(alloc, octets) {
         Some(avps) => Ok(avps),
-        None => Err(list_fault_or_no_memory(octets)),
+        None => Err(avp_list_fault_or_no_memory(octets)),
     }
 }

@@ -1,20 +1,14 @@
 //! Messages and lists of AVPs to octets (RFC 6733, 3 and 4.1).
-ghost use Rattle.std.specs.Prelude.{◌≡◌, ◌<◌, ◌≤◌, ◌⊎◌, ◌↔◌, ℕ, List, length, IfOk, IfErr, IfSome, IfNone, IsErrOf};
+ghost use Rattle.std.specs.Prelude.{◌≡◌, ◌⊎◌, ◌↔◌, ℕ, List, IfOk, IfErr, IfSome, IfNone, IsErrOf};
 ghost use Rattle.dm_wire.specs.Spelling.{SpellsList, SpellsMessage};
 ghost use Rattle.dm_wire.specs.Canonical.{canonical_list, canonical_header, canonical_message, message_size};
 ghost use Rattle.dm_wire.specs.Limits.{IsLongList, IsLongMessage};
 
 use crate::avp_and_header_octets::{fill_with_message, header_octets, push_avp_list};
-use crate::codes::limits::{HEADER_LEN, MAX_MESSAGE_LEN};
-use crate::size::avp_list_size;
+use crate::codes::limits::HEADER_LEN;
+use crate::size::{message_avps_size, wrapping_avp_list_size};
 use crate::{Avp, Message, WireFault};
 use std::alloc::Global;
-
-/// The most octets that the AVPs of a message take.
-const MAX_REST: usize = (MAX_MESSAGE_LEN - HEADER_LEN) as usize;
-
-/// The most AVPs of a message: each takes at least 8 octets.
-const MAX_AVPS: usize = MAX_REST / 8;
 
 /// The AVPs as octets, one after the other, with zero padding and zero reserved bits, as the data of
 /// a Grouped AVP (RFC 6733, 4.4).
@@ -30,30 +24,12 @@ pub fn encode_avps(alloc: Global, avps: &[Avp]) -> Result<Vec<u8>, WireFault>
     ensures unspelled { IsErrOf result WireFault.TooLong ↔ ((s : List ℕ) → SpellsList avps.now s → ⊥) }
     ensures fault { IfErr result (λ fault. (fault ≡ WireFault.TooLong) ⊎ (fault ≡ WireFault.NoMemory)) }
 {
-    let Some(size) = avp_list_size(avps) else {
+    let Some(size) = wrapping_avp_list_size(avps) else {
         return Err(WireFault::TooLong);
     };
     let mut list = Vec::with_capacity(alloc, size)?;
     push_avp_list(&mut list, avps)?;
     Ok(list)
-}
-
-/// How many octets the AVPs of a message take. `None` where the Length of one, or the Message Length, doesn't fit.
-fn message_avps_size(avps: &[Avp]) -> Option<usize>
-    ensures size { IfSome result (λ n. n ≡ length (canonical_list avps.now)) }
-    ensures fits { IfSome result (λ n. n ≤ MAX_REST) }
-    ensures spelled { IfSome result (λ n. SpellsList avps.now (canonical_list avps.now)) }
-    ensures none { IfNone result (IsLongList avps.now ⊎ (MAX_REST < length (canonical_list avps.now))) }
-{
-    // So few AVPs that the sum of their sizes is exact.
-    if avps.len() > MAX_AVPS {
-        return None;
-    }
-    let rest = avp_list_size(avps)?;
-    if rest > MAX_REST {
-        return None;
-    }
-    Some(rest)
 }
 
 /// The header of the message as octets, and how many octets the whole takes. `None` where a field is

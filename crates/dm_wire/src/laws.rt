@@ -78,7 +78,7 @@ pub fn encoded_messages_read_back()
 {}
 
 /// All spellings of a message have as many octets as the canonical one.
-pub fn all_spellings_have_one_size()
+pub fn message_spellings_have_one_size()
     ensures { OneSize }
 {}
 
@@ -126,7 +126,7 @@ pub fn spelled_message_is_found()
 {}
 
 /// An AVP whose code, Length and Vendor-ID fit their fields is spelled by its canonical octets (4.1).
-pub fn fitting_avps_are_spelled()
+pub fn fitting_avps_have_canonical_spelling()
     ensures { AvpSpelled }
 {}
 
@@ -136,19 +136,19 @@ pub fn canonical_avps_have_padded_length()
 {}
 
 /// A list of such AVPs is spelled by its canonical octets.
-pub fn fitting_lists_are_spelled()
+pub fn fitting_avp_lists_have_canonical_spelling()
     ensures { ListSpelled }
 {}
 
 /// A message of such AVPs whose header's numbers fit their fields, and which has at most 16777212 octets, is spelled by
 /// its canonical octets (3). So `encode` refuses such a message for want of memory alone.
-pub fn fitting_messages_are_spelled()
+pub fn fitting_messages_have_canonical_spelling()
     ensures { MessageSpelled }
 {}
 
 /// Octets that spell a message are a frame, for the greatest Message Length: a framer hands them out whole (3). So are
 /// the canonical octets of a message whose AVPs stand in one that is spelled. It stands for the layers above.
-pub fn spelled_messages_are_frames()
+pub fn spelled_and_canonical_messages_are_frames()
     ensures spelled { SpelledIsFramed }
     ensures canonical { CanonicalIsFramed }
 {}

@@ -1,13 +1,19 @@
 //! How many octets AVPs take (RFC 6733, 4.1).
-ghost use Rattle.std.specs.Prelude.{◌≡◌, ◌-◌, ◌%◌, ◌^◌, ◌<◌, ◌≤◌, length, IfSome, IfNone};
+ghost use Rattle.std.specs.Prelude.{◌≡◌, ◌-◌, ◌%◌, ◌^◌, ◌<◌, ◌≤◌, ◌⊎◌, length, IfSome, IfNone};
 ghost use Rattle.dm_wire.specs.Spelling.{avp_header_len, avp_length, SpellsAvp, SpellsList};
 ghost use Rattle.dm_wire.specs.Canonical.{canonical_avp, canonical_list};
 ghost use Rattle.dm_wire.specs.Borrowed.{avp_of};
 ghost use Rattle.dm_wire.specs.Codes.{max_avp_len};
 ghost use Rattle.dm_wire.specs.Limits.{IsLongAvp, IsLongList};
 
-use crate::codes::limits::MAX_AVP_LEN;
+use crate::codes::limits::{HEADER_LEN, MAX_AVP_LEN, MAX_MESSAGE_LEN};
 use crate::{Avp, AvpRef};
+
+/// The most octets that the AVPs of a message take.
+const MAX_REST: usize = (MAX_MESSAGE_LEN - HEADER_LEN) as usize;
+
+/// The most AVPs of a message: each takes at least 8 octets.
+const MAX_AVPS: usize = MAX_REST / 8;
 
 impl Avp {
     /// The AVP Length: the octets of header and data, without padding (RFC 6733, 4.1). `None` where it would pass
@@ -68,7 +74,7 @@ fn one_if_too_long(length: usize) -> usize
 /// The octets that the AVPs take, of which the lowest 64 bits are told. `None` where the Length of one doesn't fit.
 ///
 /// The loop has neither a branch nor an end before the last AVP, so that it becomes vector code.
-pub(crate) fn avp_list_size(avps: &[Avp]) -> Option<usize>
+pub(crate) fn wrapping_avp_list_size(avps: &[Avp]) -> Option<usize>
     ensures some { IfSome result (λ n. n ≡ length (canonical_list avps.now) % 2 ^ 64) }
     ensures spelled { IfSome result (λ n. SpellsList avps.now (canonical_list avps.now)) }
     ensures none { IfNone result (IsLongList avps.now) }
@@ -81,4 +87,22 @@ pub(crate) fn avp_list_size(avps: &[Avp]) -> Option<usize>
         size = size.wrapping_add((length + 3) / 4 * 4);
     }
     if long == 0 { Some(size) } else { None }
+}
+
+/// How many octets the AVPs of a message take. `None` where the Length of one, or the Message Length, doesn't fit.
+pub(crate) fn message_avps_size(avps: &[Avp]) -> Option<usize>
+    ensures size { IfSome result (λ n. n ≡ length (canonical_list avps.now)) }
+    ensures fits { IfSome result (λ n. n ≤ MAX_REST) }
+    ensures spelled { IfSome result (λ n. SpellsList avps.now (canonical_list avps.now)) }
+    ensures none { IfNone result (IsLongList avps.now ⊎ (MAX_REST < length (canonical_list avps.now))) }
+{
+    // So few AVPs that the sum of their sizes is exact.
+    if avps.len() > MAX_AVPS {
+        return None;
+    }
+    let rest = wrapping_avp_list_size(avps)?;
+    if rest > MAX_REST {
+        return None;
+    }
+    Some(rest)
 }

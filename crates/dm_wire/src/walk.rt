@@ -1,4 +1,4 @@
-//! The AVPs of octets, one after the other, where they lie (RFC 6733, 4.1).
+//! The AVPs of octets, one after the other, where they lie, up to the first bad one (RFC 6733, 4.1).
 ghost use Rattle.std.specs.Prelude.{◌≡◌, true, false, List, is_some, OnOk, IfErr, OnErr};
 ghost use Rattle.dm_wire.specs.declared.avp.Avp.{Avp};
 ghost use Rattle.dm_wire.specs.Spelling.{SpellsList};

@@ -8,7 +8,7 @@ use dm_base::Cause;
 use dm_text::read_number;
 
 /// The cause whose number a word tells; None where it tells none's.
-pub fn read_disconnect_cause(word: &[u8]) -> Option<Cause>
+pub fn read_disconnect_cause_by_number(word: &[u8]) -> Option<Cause>
     ensures told { IfSome result (λ cause. TellsNumber (cause_number cause) word.now) }
     ensures none { IfNone result ((cause : Cause) → TellsNumber (cause_number cause) word.now → ⊥) }
 {

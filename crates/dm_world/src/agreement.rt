@@ -23,17 +23,17 @@ pub(crate) fn are_one_conn_at_most(one: Option<Conn>, other: Option<Conn>) -> bo
 /// Whether what A is open on and what B is open on, in opposite roles or in the same, fit: it is one link in opposite
 /// roles, or it is two, with a disconnect coming to each side on its own.
 pub(crate) fn open_conns_agree(
-    opposite: bool,
+    in_opposite_roles: bool,
     links: &[Link],
     of_a: Option<Conn>,
     of_b: Option<Conn>,
 ) -> bool
-    ensures { result ≡ are_agreed opposite (as_links links.now) of_a of_b }
+    ensures { result ≡ are_agreed in_opposite_roles (as_links links.now) of_a of_b }
 {
     match (of_a, of_b) {
         (Some(of_a), Some(of_b)) => {
             if of_a.0 == of_b.0 {
-                opposite
+                in_opposite_roles
             } else {
                 links::is_disconnect_coming(links, Side::A, of_a.0 as usize)
                     && links::is_disconnect_coming(links, Side::B, of_b.0 as usize)

@@ -31,7 +31,7 @@ impl Net {
         if self.links[index].ignores_loss() {
             return Ok(Effect::Ignored);
         }
-        self.links[index].lose_all_but(to_a, to_b);
+        self.links[index].lose_messages_beyond(to_a, to_b);
         Ok(Effect::Done)
     }
 

@@ -148,7 +148,7 @@ impl Direction {
     }
 
     /// Puts a message in behind the others. Where the disconnect is in, it goes nowhere.
-    pub(crate) fn add_message(&mut self, message: Octets)
+    pub(crate) fn add_message_unless_disconnected(&mut self, message: Octets)
         requires room { 0 < self.old.room }
         requires frame { IsFrame max_message_len message }
         ensures put { self.new.direction ≡ with_message message self.old.direction }
@@ -243,7 +243,7 @@ impl Direction {
     /// Keeps the messages that lie wholly in so many of the octets to come, and puts a disconnect behind them. A front
     /// message that goes takes its octets with it that were delivered. Where the disconnect was delivered, nothing
     /// changes.
-    pub(crate) fn lose_all_but(&mut self, kept: u32)
+    pub(crate) fn lose_messages_beyond(&mut self, kept: u32)
         ensures { self.new.direction ≡ lost length kept self.old.direction }
     {
         match self.mark {

@@ -56,7 +56,7 @@ pub(crate) fn receive_event_on_link(
     }
 }
 
-/// Does one action of the side's peer on the links.
+/// Does one action of the side's peer on the links: a Send or a Close. A Connect and an Up ask nothing of them.
 fn perform_one_action(links: &mut Vec<Link>, side: Side, action: Action)
     requires room { (c : ℕ) → IsTrue (sends_at c (deed_in (as_action action) ∷ [])) →
         HasRoom (as_side side) links.old.items 1 c }
@@ -73,7 +73,7 @@ fn perform_one_action(links: &mut Vec<Link>, side: Side, action: Action)
     }
 }
 
-/// Does the actions of the side's peer on the links, in order.
+/// Does the actions of the side's peer on the links, in order: its Sends and Closes.
 pub(crate) fn perform_actions(links: &mut Vec<Link>, side: Side, mut actions: Actions)
     requires room { HasRoomFor (as_side side) links.old.items (as_actions actions.items) }
     requires frames { SendFrames (as_actions actions.items) }
@@ -105,6 +105,6 @@ pub(crate) fn follow_event_on_links(
     receive_event_on_link(links, side, event, framer);
     perform_actions(links, side, actions);
     if let Event::Arrived(conn, _) = event {
-        links::settle_fresh_end_on_link(links, side, conn.0 as usize, holds(peer, conn));
+        links::open_or_shut_fresh_end_at(links, side, conn.0 as usize, holds(peer, conn));
     }
 }

@@ -6,7 +6,7 @@ use crate::World;
 
 /// What holds of every world, whatever happened to it: it is sound, its peers are configured for each other, and fewer
 /// octets are delivered of a front message than it has.
-pub fn every_world_is_kept(world: &World)
+pub fn every_world_is_sound_and_paired(world: &World)
     ensures { IsWorldKept world.now }
 {
     let _kept = &world.made;

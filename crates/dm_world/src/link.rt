@@ -102,8 +102,8 @@ impl Link {
     {
         let mine = self.is_opener(side);
         match (self.phase, mine) {
-            (Phase::Up, true) => self.to_other.add_message(message),
-            (Phase::Up, false) => self.to_opener.add_message(message),
+            (Phase::Up, true) => self.to_other.add_message_unless_disconnected(message),
+            (Phase::Up, false) => self.to_opener.add_message_unless_disconnected(message),
             _ => {}
         }
     }
@@ -233,8 +233,8 @@ impl Link {
         }
     }
 
-    /// A fresh end that was heard on is open where its peer holds the link, else shut.
-    pub(crate) fn settle_fresh_end(&mut self, side: Side, holds: bool)
+    /// A fresh end that was heard on is open where its peer holds the link, else shut: fresh it doesn't stay.
+    pub(crate) fn open_or_shut_fresh_end(&mut self, side: Side, holds: bool)
         ensures { as_link self.new ≡ by_side (as_side side) (settled_view HeardOnLink holds) (as_link self.old) }
     {
         let settled = if holds { End::Open } else { End::Shut };
@@ -246,18 +246,19 @@ impl Link {
         }
     }
 
-    /// The link is lost: so many first octets of those to come towards A and towards B stay.
-    pub(crate) fn lose_all_but(&mut self, to_a: u32, to_b: u32)
+    /// The link is lost: of the messages to come towards A and towards B those stay that lie wholly in so many first
+    /// octets of them.
+    pub(crate) fn lose_messages_beyond(&mut self, to_a: u32, to_b: u32)
         ensures { as_link self.new ≡ lost_link length to_a to_b (as_link self.old) }
     {
         match self.opener {
             Side::A => {
-                self.to_opener.lose_all_but(to_a);
-                self.to_other.lose_all_but(to_b);
+                self.to_opener.lose_messages_beyond(to_a);
+                self.to_other.lose_messages_beyond(to_b);
             }
             Side::B => {
-                self.to_opener.lose_all_but(to_b);
-                self.to_other.lose_all_but(to_a);
+                self.to_opener.lose_messages_beyond(to_b);
+                self.to_other.lose_messages_beyond(to_a);
             }
         }
     }

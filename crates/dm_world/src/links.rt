@@ -63,13 +63,19 @@ pub(crate) fn close_link(links: &mut Vec<Link>, side: Side, index: usize)
     }
 }
 
-/// A fresh end of the side that was heard on is open where its peer holds the link, else shut.
-pub(crate) fn settle_fresh_end_on_link(links: &mut Vec<Link>, side: Side, index: usize, holds: bool)
+/// A fresh end of the side that was heard on is open where its peer holds the link, if there is one, else shut: fresh
+/// it doesn't stay.
+pub(crate) fn open_or_shut_fresh_end_at(
+    links: &mut Vec<Link>,
+    side: Side,
+    index: usize,
+    holds: bool,
+)
     ensures { as_links links.new.items
         ≡ change_at index (by_side (as_side side) (settled_view HeardOnLink holds)) (as_links links.old.items) }
 {
     if index < links.len() {
-        links[index].settle_fresh_end(side, holds);
+        links[index].open_or_shut_fresh_end(side, holds);
     }
 }
 

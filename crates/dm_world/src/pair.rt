@@ -10,7 +10,7 @@ ghost use Rattle.dm_world.specs.Seen.{as_side};
 
 use crate::Side;
 use dm_dict::NoMemory;
-use dm_peer::laws::refusals_go_by_rule;
+use dm_peer::laws::event_refusals_go_by_rule;
 use dm_peer::{Actions, Conn, Event, Peer, PeerFault, State};
 use std::alloc::Global;
 
@@ -44,9 +44,9 @@ pub(crate) fn holds(peer: &Peer, conn: Conn) -> bool
     peer.holds(conn)
 }
 
-/// Whether a peer takes such an event in its state: a Start in Closed, a Stop or a Submit where it is open, all else in
-/// each.
-fn peer_takes_event(peer: &Peer, event: Event<'_>) -> bool
+/// Whether a peer takes such an event in its state, whatever it carries: a Start in Closed, a Stop or a Submit where it
+/// is open, all else in each.
+fn peer_state_takes_event(peer: &Peer, event: Event<'_>) -> bool
     ensures { result ≡ is_in_place peer.now.standing.core.state (event_told event.entry) }
 {
     match event {
@@ -72,17 +72,18 @@ impl Pair {
         }
     }
 
-    /// Whether the side's peer takes such an event in its state. Where it doesn't, it refuses the event.
+    /// Whether the side's peer takes such an event in its state, whatever it carries. Where it doesn't, it refuses the
+    /// event.
     #[tactic(auto, using(crate::proofs::OffPlace::off_place))]
-    pub(crate) fn side_takes_event(&self, side: Side, event: Event<'_>) -> bool
+    pub(crate) fn side_state_takes_event(&self, side: Side, event: Event<'_>) -> bool
         ensures state { result ≡ is_in_place (peer_of (as_side side) self.now).standing.core.state
             (event_told event.entry) }
         ensures refused { result ≡ false → IsAnswerOf (as_side side) (event_told event.entry) None self.now self.now }
     {
-        refusals_go_by_rule();
+        event_refusals_go_by_rule();
         let peer = self.peer_at(side);
         let _shaped = peer.state();
-        peer_takes_event(peer, event)
+        peer_state_takes_event(peer, event)
     }
 
     /// What the side's peer asks for at the event. None where it refuses the event.

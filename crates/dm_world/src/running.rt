@@ -18,11 +18,11 @@ ghost use Rattle.dm_world.specs.Settling.{AreClean, EitherCanOpen};
 ghost use Rattle.dm_world.specs.Settling.{RanTo, RunSettles, RunFallsQuiet, RunCanFallQuiet};
 ghost use Rattle.dm_world.specs.Views.{IsEnd};
 
-use crate::laws::every_world_is_kept;
+use crate::laws::every_world_is_sound_and_paired;
 use crate::{Happening, World, WorldFault};
 use dm_octet_peers::laws::{
-    each_clean_octet_run_can_fall_quiet, each_clean_octet_run_falls_quiet,
-    each_clean_octet_run_keeps_its_course, each_octet_quiet_run_is_closed_or_open,
+    clean_octet_runs_can_settle_as_elected, clean_octet_runs_fall_quiet,
+    clean_octet_runs_settle_as_elected, each_octet_quiet_run_is_closed_or_open,
     each_octet_run_delivers_in_order, each_octet_run_hands_up_only_arrivals,
     each_octet_world_can_restart_and_open, quiet_octet_peers_are_closed_or_joined,
 };
@@ -101,15 +101,15 @@ impl World {
         quiet_peers_hold_the_same::<Peer, Octets>();
         each_octet_run_delivers_in_order();
         each_octet_run_hands_up_only_arrivals();
-        each_clean_octet_run_keeps_its_course();
-        each_clean_octet_run_falls_quiet();
-        each_clean_octet_run_can_fall_quiet();
+        clean_octet_runs_settle_as_elected();
+        clean_octet_runs_fall_quiet();
+        clean_octet_runs_can_settle_as_elected();
         quiet_octet_peers_are_closed_or_joined();
         each_octet_quiet_run_is_closed_or_open();
         each_octet_world_can_restart_and_open();
-        every_world_is_kept(self);
+        every_world_is_sound_and_paired(self);
         let ended = self.apply_up_to_fault(alloc, list);
-        every_world_is_kept(self);
+        every_world_is_sound_and_paired(self);
         ended
     }
 

@@ -13,7 +13,7 @@ use crate::net::Net;
 use crate::{Effect, Side};
 use dm_dict::NoMemory;
 use dm_octet_peers::laws::every_message_sent_is_a_frame;
-use dm_peer::laws::silent_events_take_no_memory;
+use dm_peer::laws::starts_timeouts_drops_take_no_memory;
 use dm_peer::{Conn, Event};
 use std::alloc::Global;
 
@@ -26,10 +26,10 @@ impl Net {
             ≡ true) }
         ensures unchanged { OnErr result (as_world self.new ≡ as_world self.old) }
     {
-        silent_events_take_no_memory();
+        starts_timeouts_drops_take_no_memory();
         every_message_sent_is_a_frame();
         let conn = Conn(self.links.len() as u64);
-        if !self.pair.side_takes_event(side, Event::Start(conn)) {
+        if !self.pair.side_state_takes_event(side, Event::Start(conn)) {
             return Ok(Effect::Ignored);
         }
         if self.links.reserve(1).is_err() {
@@ -50,7 +50,7 @@ impl Net {
         ensures { Effects result (happens octet_peers (as_world self.old) (TimesOut (as_side side)))
             (as_world self.old) (as_world self.new) }
     {
-        silent_events_take_no_memory();
+        starts_timeouts_drops_take_no_memory();
         every_message_sent_is_a_frame();
         match self.pair.ask_side(alloc, side, Event::Timeout) {
             Ok(None) => Effect::Ignored,

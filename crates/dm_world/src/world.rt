@@ -11,7 +11,7 @@ use crate::pair::Pair;
 use crate::{Effect, Happening, NewFault, Side, WorldFault, links};
 use dm_base::common_nodes;
 use dm_octet_peers::laws::{
-    each_happening_keeps_peers_paired, octet_peers_move_as_the_machine,
+    octet_peers_begin_and_stay_paired, octet_peers_move_as_the_machine,
     octet_peers_send_no_empty_message,
 };
 use dm_peer::{Config, Conn, Peer, is_same_host};
@@ -25,7 +25,7 @@ use std::fmt::{self, Debug, Formatter, Write};
 use std::marker::Model;
 
 /// Two peers, each configured for the other, and the links between them (RFC 6733, 5.6). What holds of each world is
-/// said by `laws::every_world_is_kept`.
+/// said by `laws::every_world_is_sound_and_paired`.
 #[derive(Drop)]
 pub struct World {
     pub(crate) net: Net,
@@ -79,7 +79,7 @@ fn world_of_new_peers(alloc: Global, a: Config, b: Config) -> World
     ensures { result ≡ world_of (fresh_peer a) (fresh_peer b) }
 {
     closed_peers_make_a_sound_world::<Peer, Octets>();
-    each_happening_keeps_peers_paired();
+    octet_peers_begin_and_stay_paired();
     World {
         net: Net {
             pair: Pair {
@@ -124,7 +124,7 @@ impl World {
     {
         octet_peers_move_as_the_machine();
         each_happening_keeps_worlds_sound::<Peer, Octets>();
-        each_happening_keeps_peers_paired();
+        octet_peers_begin_and_stay_paired();
         no_front_message_is_fully_delivered::<Peer, Octets>();
         octet_peers_send_no_empty_message();
         only_acks_make_ends_fresh::<Peer, Octets>();

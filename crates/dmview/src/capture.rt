@@ -5,6 +5,7 @@ use dm_capture::CaptureReader;
 use dm_connections::{Choice, DIAMETER_PORT, Limits, MAX_CONNECTIONS, MAX_HELD};
 use dm_trace_view::{Filter, Looks, Times, Wanted};
 use std::alloc::{AllocError, Global};
+use std::io::Write;
 
 /// How many octets tell whether a file is a capture.
 pub const FRONT_LEN: usize = 4;
@@ -42,12 +43,22 @@ pub struct Asked {
 /// The options with a text that captures alone have.
 const TEXTS: [&str; 4] = ["time", "peer", "session", "command"];
 
+/// What is said where the input is no capture, though an option of captures is there.
+const MISPLACED: &str =
+    "dmview: the input is no capture: --port, --any, --time, --peer, --session, --command and --bad are of captures";
+
 /// Whether an option is given that captures alone have.
 pub fn has_capture_option(matches: &ArgMatches<'_>) -> bool {
     TEXTS.iter().any(|name| matches.get_str(name).is_some())
         || matches.get_many::<u16>("port").is_some()
         || matches.get_flag("any")
         || matches.get_flag("bad")
+}
+
+/// Says that the input is no capture, though an option of captures is there, and tells the status.
+pub fn refuse_capture_options(rt: &HostRuntime) -> Result<u8> {
+    writeln!(rt.stderr(), "{MISPLACED}").context("dmview")?;
+    Ok(2)
 }
 
 /// The ports that are named, or else that of Diameter.

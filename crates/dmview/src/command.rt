@@ -8,8 +8,11 @@ const COLOURS: [&str; 3] = ["auto", "always", "never"];
 /// How the times of a capture are said.
 const TIMES: [&str; 2] = ["utc", "relative"];
 
-/// The options of a capture, for a word of the command line.
-fn with_capture_options<'a>(alloc: Global, word: Command<'a>) -> Result<Command<'a>, AllocError> {
+/// The options of what the files are, and of a capture's ports and times, for a word of the command line.
+fn with_kind_port_and_time_options<'a>(
+    alloc: Global,
+    word: Command<'a>,
+) -> Result<Command<'a>, AllocError> {
     let hex = Arg::new(alloc, "hex")
         .long("hex")
         .help("the files are lines of hexadecimal, whatever they begin with")
@@ -100,7 +103,7 @@ fn new_subcommand<'a>(
         .arg(stream)?
         .arg(json)?
         .arg(file)?;
-    let word = with_capture_options(alloc, word)?;
+    let word = with_kind_port_and_time_options(alloc, word)?;
     with_filter_options(alloc, word)
 }
 

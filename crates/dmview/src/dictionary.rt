@@ -7,7 +7,7 @@ ghost use Rattle.dm_tables.specs.Base.{base_definitions};
 use anyhow::{Context, Error, Result};
 use dm_dict::{DictFault, Dictionary};
 use dm_text::{Lines, Words};
-use dm_view_lines::push_file_as_lines;
+use dm_view_lines::push_limited_file_as_lines;
 use std::alloc::Global;
 use std::fs::File;
 use std::{fs, io, str};
@@ -39,7 +39,7 @@ pub fn dictionary_of_files(
     }
     let mut text = Vec::new(rt.alloc());
     let mut ends = Vec::new(rt.alloc());
-    let done = push_texts_and_ends(names, files, &mut text, &mut ends);
+    let done = push_version_texts_and_ends(names, files, &mut text, &mut ends);
     done?;
     match dictionary_over_base(rt.alloc(), text.as_slice()) {
         Ok(dictionary) => Ok(dictionary),
@@ -49,7 +49,7 @@ pub fn dictionary_of_files(
 
 /// Appends the texts of the files as one text of version 2, whose version stands before the first line, and where each
 /// ends.
-fn push_texts_and_ends(
+fn push_version_texts_and_ends(
     names: &[&str],
     files: Vec<File>,
     text: &mut Vec<u8>,
@@ -59,7 +59,7 @@ fn push_texts_and_ends(
     let mut at: usize = 0;
     for file in files {
         let name = names.get(at).copied().unwrap_or("?");
-        push_file_as_lines(file, text).context(format_args!("dmview: {name}"))?;
+        push_limited_file_as_lines(file, text).context(format_args!("dmview: {name}"))?;
         ends.extend_from_slice(&[text.len()])?;
         at = at.saturating_add(1);
     }
@@ -189,7 +189,7 @@ fn file_defines_name(rt: &HostRuntime, path: &str, word: &[u8]) -> bool {
     let Ok(file) = File::open(rt, path) else {
         return false;
     };
-    match push_file_as_lines(file, &mut text) {
+    match push_limited_file_as_lines(file, &mut text) {
         Ok(()) => text_defines_name(text.as_slice(), word),
         Err(_) => false,
     }

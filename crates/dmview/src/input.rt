@@ -1,6 +1,7 @@
-//! The files of a run.
+//! The files of a run, and whether they are captures.
 use crate::capture::{FRONT_LEN, is_capture_front};
 use anyhow::{Context, Result};
+use clap::ArgMatches;
 use dm_view_lines::Inputs;
 use std::alloc::{AllocError, Global};
 use std::collections::VecDeque;
@@ -61,14 +62,17 @@ pub fn joined_files(
     let mut front = front;
     for file in files {
         let read = mem::replace(&mut front, VecDeque::new(alloc));
-        inputs.push(file_with_front(read, file)).context("dmview")?;
+        inputs
+            .push_as_lines(file_with_front(read, file))
+            .context("dmview")?;
     }
     drop(front);
     Ok(inputs)
 }
 
-/// Whether the first file begins as a capture, by octets at its front, which are read and appended to `front`.
-pub fn read_front_and_detect_capture(
+/// Whether the first file begins as a capture, by octets at its front, which are read and appended to `front`; false
+/// where none is named.
+fn read_whether_first_file_is_capture(
     rt: &HostRuntime,
     files: &mut VecDeque<File>,
     front: &mut VecDeque<u8>,
@@ -87,4 +91,21 @@ pub fn read_front_and_detect_capture(
             .context("dmview")?;
     }
     is_capture_front(rt.alloc(), octets.as_slice()).context("dmview")
+}
+
+/// Whether the input is captures: where that is said, or the first file begins as one and nothing else is said.
+pub fn are_captures(
+    rt: &HostRuntime,
+    matches: &ArgMatches<'_>,
+    files: &mut VecDeque<File>,
+    front: &mut VecDeque<u8>,
+    names: &[&str],
+) -> Result<bool> {
+    if matches.get_flag("capture") {
+        return Ok(true);
+    }
+    if matches.get_flag("hex") || matches.get_flag("stream") {
+        return Ok(false);
+    }
+    read_whether_first_file_is_capture(rt, files, front, names)
 }

@@ -1,4 +1,5 @@
-//! The program `dmview`: its runs over lines, a stream or captures, what they are asked to say, and their status.
+//! The program `dmview`: its runs over lines, a stream or captures, what they are asked to say and whether in colours,
+//! and their status.
 //!
 //! It tells what Diameter messages say, in names and values, and all that is wrong with them. What it prints for lines
 //! and streams is dm_view_lines', for captures dm_trace_view's; here are the command line, the files, the dictionary of
@@ -14,12 +15,13 @@ mod dictionary;
 mod input;
 mod output;
 
-use crate::capture::{capture_options_of, has_capture_option, looks_from_options};
+use crate::capture::{
+    capture_options_of, has_capture_option, looks_from_options, refuse_capture_options,
+};
 use crate::command::command_line;
 use crate::dictionary::dictionary_of_files;
 use crate::input::{
-    file_with_front, joined_files, open_dictionary_files, open_input_files,
-    read_front_and_detect_capture,
+    are_captures, file_with_front, joined_files, open_dictionary_files, open_input_files,
 };
 use crate::output::say_lines_or_stream;
 use anyhow::{Context, Error, Result};
@@ -34,10 +36,6 @@ use std::hash::RandomState;
 use std::io::{BufReader, ErrorKind, IsTerminal, Read, Write};
 use std::process::ExitCode;
 use std::{env, mem};
-
-/// What is said where the input is no capture, though an option of captures is there.
-const MISPLACED: &str =
-    "dmview: the input is no capture: --port, --any, --time, --peer, --session, --command and --bad are of captures";
 
 /// The error of a run that stopped by this fault, with the name of what was read; or the status 3, without a word,
 /// where nobody reads the output any more.
@@ -89,7 +87,7 @@ fn say_hexadecimal_standard_input(
     is_stream: bool,
 ) -> Result<u8> {
     let mut inputs = Inputs::new(rt.alloc());
-    inputs.push(rt.stdin()).context("dmview")?;
+    inputs.push_as_lines(rt.stdin()).context("dmview")?;
     say_hexadecimal_inputs(rt, dictionary, style, is_stream, inputs, &[])
 }
 
@@ -180,25 +178,8 @@ fn say_input(
     }
 }
 
-/// Whether the input is captures: where that is said, or the first file begins as one and nothing else is said.
-fn are_captures(
-    rt: &HostRuntime,
-    matches: &ArgMatches<'_>,
-    files: &mut VecDeque<File>,
-    front: &mut VecDeque<u8>,
-    names: &[&str],
-) -> Result<bool> {
-    if matches.get_flag("capture") {
-        return Ok(true);
-    }
-    if matches.get_flag("hex") || matches.get_flag("stream") {
-        return Ok(false);
-    }
-    read_front_and_detect_capture(rt, files, front, names)
-}
-
 /// Whether the output is coloured: always, never, or else where standard output is a terminal.
-fn is_coloured(rt: &HostRuntime, when: Option<&str>) -> bool {
+fn is_coloured_by_option_or_terminal(rt: &HostRuntime, when: Option<&str>) -> bool {
     match when {
         Some("always") => true,
         Some("never") => false,
@@ -219,17 +200,11 @@ fn task_of(is_check: bool, is_json: bool) -> Task
     }
 }
 
-/// Says that the input is no capture, though an option of captures is there, and tells the status.
-fn refuse_capture_options(rt: &HostRuntime) -> Result<u8> {
-    writeln!(rt.stderr(), "{MISPLACED}").context("dmview")?;
-    Ok(2)
-}
-
 /// Opens the files, reads the dictionaries, and writes what is said of the input. It tells the status.
 fn run_subcommand(rt: &HostRuntime, is_check: bool, matches: &ArgMatches<'_>) -> Result<u8> {
     let style = Style {
         task: task_of(is_check, matches.get_flag("json")),
-        coloured: is_coloured(rt, matches.get_str("color")),
+        coloured: is_coloured_by_option_or_terminal(rt, matches.get_str("color")),
     };
     let texts_names = matches.get_strs("dict").unwrap_or(&[]);
     let texts = open_dictionary_files(rt, texts_names)?;

@@ -1,4 +1,4 @@
-//! The output of a run over lines or a stream.
+//! What is written of a reader's lines, or of the stream that they are.
 ghost use Rattle.std.specs.Prelude.{◌≡◌, ℕ, true, false, List, IfOk, IfSome};
 ghost use Rattle.std.specs.Io.KnownBytes.{Appends};
 ghost use Rattle.dm_view_lines.specs.Colours.{SaysStyled, SaysStreamStyled};

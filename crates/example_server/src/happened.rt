@@ -2,7 +2,7 @@
 use anyhow::{Context, Result, bail};
 use dm_node::{Conn, Order};
 use dm_text::{Words, read_hex_word};
-use dm_words::{next_long_number, next_number, read_disconnect_cause};
+use dm_words::{next_long_number, next_number, read_disconnect_cause_by_number};
 use std::alloc::{AllocError, Global};
 
 /// What happened.
@@ -46,7 +46,10 @@ fn read_order(name: &[u8], left: &mut Words<'_>) -> Option<Order<'static>> {
         b"gone" => Some(Order::Gone(read_conn(left)?)),
         b"timeout" => Some(Order::Timeout(read_neighbour(left)?)),
         b"tick" => Some(Order::Tick(read_neighbour(left)?)),
-        b"stop" => Some(Order::Stop(read_neighbour(left)?, read_disconnect_cause(left.next()?)?)),
+        b"stop" => Some(Order::Stop(
+            read_neighbour(left)?,
+            read_disconnect_cause_by_number(left.next()?)?,
+        )),
         _ => None,
     }
 }

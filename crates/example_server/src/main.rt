@@ -23,8 +23,8 @@ fn serve_two(rt: &(impl Input + Print + AllocGlobal), answer: &mut Answer) -> Re
     served
 }
 
-/// One peer.
-fn serve_one(rt: &(impl Input + Print + AllocGlobal), answer: &mut Answer) -> Result<()> {
+/// One peer, which is told whatever strangers send.
+fn serve_alone(rt: &(impl Input + Print + AllocGlobal), answer: &mut Answer) -> Result<()> {
     let mut node = node_of(rt.alloc(), &[b"b.example"])?;
     let served = serve(rt, &Alone, &mut node, answer);
     drop(node);
@@ -46,7 +46,7 @@ fn main(rt: HostRuntime) -> Result<()> {
     rt.read_line(&mut first)?;
     match first.trim() {
         "two" => serve_two(&rt, &mut answer),
-        "one" => serve_one(&rt, &mut answer),
+        "one" => serve_alone(&rt, &mut answer),
         "open" => serve_open(&rt, &mut answer),
         _ => bail!("the first line is two, one or open"),
     }

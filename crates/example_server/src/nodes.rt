@@ -15,14 +15,14 @@ fn own_side(alloc: Global) -> Result<dm_base::Node> {
 }
 
 /// The configuration of which those for further hosts are made.
-fn template(alloc: Global) -> Result<Config> {
+fn config_template(alloc: Global) -> Result<Config> {
     let host = Vec::from_slice(alloc, b"b.example")?;
     Ok(Config::new(alloc, own_side(alloc)?, host, 1)?)
 }
 
 /// A node of these neighbours.
 pub fn node_of(alloc: Global, hosts: &[&[u8]]) -> Result<Node> {
-    let template = template(alloc)?;
+    let template = config_template(alloc)?;
     let mut node = Node::new(alloc, own_side(alloc)?, 65_536, 1_048_576);
     for host in hosts {
         node.add(template.for_host(alloc, host)?)?;
@@ -32,5 +32,5 @@ pub fn node_of(alloc: Global, hosts: &[&[u8]]) -> Result<Node> {
 
 /// Takes in each host that calls, until there are ten neighbours.
 pub fn open_to_ten(alloc: Global) -> Result<Open> {
-    Ok(Open::new(template(alloc)?, 10))
+    Ok(Open::new(config_template(alloc)?, 10))
 }

@@ -74,7 +74,7 @@ fn told(alloc: Global, steps: &[Step]) -> Result<Vec<u8>, AllocError> {
     let counts = format!(in alloc;
         "{} {} {}",
         flow.octets_passed_over(),
-        flow.octets_secured(),
+        flow.octets_of_dtls(),
         flow.octets_waiting()
     )?;
     text.extend_from_slice(counts.as_bytes())?;

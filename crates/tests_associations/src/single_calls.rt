@@ -58,7 +58,7 @@ fn asked_for_where_none_is_held(rt: HostRuntime) {
         .octets_passed_over_of(ends_of(3868, 2))
         .is_none();
     let passed = associations.octets_passed_over_of(ends_of(2, 3868)) == Some(0);
-    let found = associations.find_ends(end(3868), end(2)) == Some(ends_of(2, 3868))
+    let found = associations.find_held_ends(end(3868), end(2)) == Some(ends_of(2, 3868))
         && associations.get(ends_of(3868, 2)).is_none()
         && held_of(&associations, ends_of(2, 3868)) == 5;
     let message = associations

@@ -85,7 +85,7 @@ fn put_let_go(
 ) -> Result<(), AllocError> {
     let (passed, secured) = (
         gone.connection.octets_passed_over_both_ways(),
-        gone.connection.octets_secured_both_ways(),
+        gone.connection.octets_of_dtls_both_ways(),
     );
     let held = gone.connection.octets_held_both_ways();
     let ends = gone.ends;

@@ -3,7 +3,7 @@
 use dm_grammar::{
     AvpItem, CommandItem, EntryItem, Form, GroupItem, Item, ItemFault, ValueItem, VendorItem,
     VendorWord, items_are_what_steps_take, read_items, tokens_are_items_or_have_a_fault,
-    words_beyond_digits_are_names,
+    words_not_all_digits_are_names,
 };
 use std::alloc::{AllocError, Global};
 
@@ -148,7 +148,7 @@ const SECOND_EDGES: [(&str, Result<usize, usize>); 52] = [
 
 #[test]
 fn second_version_edges(rt: HostRuntime) {
-    words_beyond_digits_are_names();
+    words_not_all_digits_are_names();
     for (text, want) in &SECOND_EDGES {
         assert!(rt;
             outcome(rt.alloc(), text.as_bytes()) == *want,

@@ -74,8 +74,8 @@ fn copies_and_texts_are_the_same(rt: HostRuntime) -> Result<(), Fail> {
     laws::octets_have_one_value_at_most();
     laws::each_value_is_of_one_type();
     laws::octets_of_values_have_no_fault();
-    laws::no_value_is_below_the_least_length();
-    laws::flaw_is_fault_or_none();
+    laws::shortest_values_have_the_least_length();
+    laws::flaw_decides_fault_or_value();
     laws::octets_have_a_value_or_a_fault();
     let other = Address::Other(3, octets(rt.alloc(), b"x")?);
     assert!(rt; is_copied_address(&other));

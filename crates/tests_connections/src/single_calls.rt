@@ -55,8 +55,8 @@ fn added_once_in_either_order(rt: HostRuntime) {
         .add_unless_held(ends_of(2, 3868))
         .expect(&rt, "memory");
     let (len, held) = (connections.len(), connections.total_octets_held());
-    let found = connections.find_ends(end(3868), end(2)) == Some(ends_of(2, 3868))
-        && connections.find_ends(end(1), end(2)).is_none();
+    let found = connections.find_held_ends(end(3868), end(2)) == Some(ends_of(2, 3868))
+        && connections.find_held_ends(end(1), end(2)).is_none();
     drop(connections);
     assert!(rt; len == 2 && held == 60 && found);
 }

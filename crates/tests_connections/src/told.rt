@@ -89,7 +89,7 @@ fn put_row(
 fn put_let_go(alloc: Global, text: &mut String, gone: LetGo) -> Result<(), AllocError> {
     put_ends(alloc, text, gone.ends)?;
     let passed = gone.connection.octets_passed_over_both_ways();
-    let pending = gone.connection.octets_pending_both_ways();
+    let pending = gone.connection.octets_held_that_came_both_ways();
     drop(gone);
     text.push_str(format!(in alloc; " {passed}+{pending} ")?.as_str())
 }

@@ -33,11 +33,11 @@ fn put_messages(flow: &mut Flow, text: &mut String) -> Result<(), AllocError> {
 fn take(flow: &mut Flow, stream: &[u8], step: &Step) -> Result<(), AllocError> {
     match step {
         Syn(number) => flow.begin_at_syn(*number),
-        Fin(number) => flow.end_at_fin(*number),
+        Fin(number) => flow.end_at_fin_unless_ended(*number),
         Reset => flow.end_at_rst(),
         Octets(number, from, to) => {
             if from <= to && *to <= stream.len() {
-                flow.take_octets(*number, &stream[*from..*to])?;
+                flow.take_payload_or_pass(*number, &stream[*from..*to])?;
             }
         }
     }

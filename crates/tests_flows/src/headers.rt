@@ -1,5 +1,5 @@
 //! Octets in front of which a header may stand, and those beside them.
-use dm_flows::{begins_with_exchange_request, begins_with_header};
+use dm_flows::{begins_with_exchange_request, begins_with_whole_header};
 
 /// A Capabilities-Exchange-Request's header.
 const EXCHANGE: [u8; 20] = [
@@ -19,7 +19,7 @@ use Front::{Exchange, Header, Nothing};
 fn front_of(octets: &[u8]) -> Front {
     if begins_with_exchange_request(octets) {
         Exchange
-    } else if begins_with_header(octets) {
+    } else if begins_with_whole_header(octets) {
         Header
     } else {
         Nothing

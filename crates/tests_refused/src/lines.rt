@@ -3,7 +3,7 @@ use crate::each::each;
 use dm_dict::Dictionary;
 use dm_refusal::{
     End, Subject, end_of_answered_call, end_of_repeated_call, refuse_nth_request,
-    was_request_refused,
+    was_request_refused_and_stop,
 };
 use dm_view_lines::{RunFault, Task, say_lines, say_stream};
 use std::alloc::Global;
@@ -47,7 +47,7 @@ fn said(
     } else {
         say_lines(alloc, dictionary, task, coloured, &mut reader, text)
     };
-    let refused = was_request_refused(alloc);
+    let refused = was_request_refused_and_stop(alloc);
     drop(reader);
     (said, refused)
 }

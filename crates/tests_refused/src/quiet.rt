@@ -3,7 +3,7 @@ use crate::messages::node;
 use crate::rows::*;
 use dm_base::{Kind, KindRef, Node, classify, common, common_nodes, host_order, secure, view};
 use dm_dict::{AvpType, Dictionary, Ip, Judged, Verdict, least_len, unix_seconds};
-use dm_refusal::{refuse_each_request, was_request_made};
+use dm_refusal::{refuse_each_request, was_request_made_and_stop};
 use dm_wire::{Avp, AvpWalk, Framer, Message, MessageRef, Octets, WireFault};
 use std::alloc::Global;
 use std::cmp::Ordering;
@@ -11,7 +11,7 @@ use std::process::Abort;
 
 /// The answers are right, and no request was made for them.
 fn check_quiet(rt: &(impl Abort + AllocGlobal), right: bool) {
-    let asked = was_request_made(rt.alloc());
+    let asked = was_request_made_and_stop(rt.alloc());
     assert!(rt; !asked, "a request was made");
     assert!(rt; right, "another answer");
 }

@@ -3,7 +3,7 @@ use crate::each::{each, each_made};
 use crate::rows::{WATCHDOG, octets};
 use dm_refusal::{
     End, Making, Subject, end_of_answered_call, end_of_repeated_call, refuse_nth_request,
-    was_request_larger_than, was_request_refused, worse_end,
+    was_request_larger_than, was_request_refused_and_stop, worse_end,
 };
 use dm_wire::{FrameFault, Framer};
 use std::alloc::Global;
@@ -39,7 +39,7 @@ fn feed(alloc: Global, framer: &mut Framer, piece: &[u8], nth: u32) -> End {
     let before = told_by_copy(framer);
     refuse_nth_request(alloc, nth);
     let fed = framer.feed(piece);
-    let refused = was_request_refused(alloc);
+    let refused = was_request_refused_and_stop(alloc);
     match fed {
         Ok(()) => end_of_answered_call(refused, true),
         Err(FrameFault::NoMemory) => {
@@ -77,7 +77,7 @@ fn next(alloc: Global, framer: &mut Framer, row: &[u8], nth: u32) -> (End, Given
     let before = told_by_copy(framer);
     refuse_nth_request(alloc, nth);
     let first = framer.next();
-    let refused = was_request_refused(alloc);
+    let refused = was_request_refused_and_stop(alloc);
     match first {
         Err(FrameFault::NoMemory) => {
             let same = before.is_some() && told_by_copy(framer) == before;

@@ -4,7 +4,7 @@ use dm_association::SctpFlow;
 use dm_flows::DataChunk;
 use dm_refusal::{
     End, Subject, end_of_answered_call, end_of_repeated_call, refuse_nth_request,
-    was_request_refused, worse_end,
+    was_request_refused_and_stop, worse_end,
 };
 use std::alloc::Global;
 use std::process::Abort;
@@ -55,7 +55,7 @@ fn length_of(message: Option<Vec<u8>>) -> u64 {
 fn take(alloc: Global, flow: &mut SctpFlow, chunk: &Chunk, nth: u32, sum: &mut u64) -> End {
     refuse_nth_request(alloc, nth);
     let first = flow.take_chunk(chunk_of(chunk));
-    let refused = was_request_refused(alloc);
+    let refused = was_request_refused_and_stop(alloc);
     match first {
         Ok(message) => {
             *sum = sum.saturating_add(length_of(message));

@@ -3,7 +3,7 @@ use crate::each::each;
 use dm_capture::{CaptureFault, CaptureReader, FaultKind, Packet};
 use dm_refusal::{
     End, Subject, end_of_answered_call, end_of_repeated_call, refuse_nth_request,
-    was_request_refused, worse_end,
+    was_request_refused_and_stop, worse_end,
 };
 use std::alloc::Global;
 
@@ -19,7 +19,7 @@ const PCAPNG: &str =
 fn feed(alloc: Global, capture: &mut CaptureReader, piece: &[u8], nth: u32) -> End {
     refuse_nth_request(alloc, nth);
     let fed = capture.feed(piece);
-    let refused = was_request_refused(alloc);
+    let refused = was_request_refused_and_stop(alloc);
     match fed {
         Ok(()) => end_of_answered_call(refused, true),
         Err(_) => end_of_repeated_call(refused, capture.feed(piece).is_ok()),
@@ -53,7 +53,7 @@ fn counted(answer: Result<Option<Packet>, CaptureFault>, sum: &mut u64) -> Optio
 fn next(alloc: Global, capture: &mut CaptureReader, nth: u32, sum: &mut u64) -> (End, Option<End>) {
     refuse_nth_request(alloc, nth);
     let first = capture.next();
-    let refused = was_request_refused(alloc);
+    let refused = was_request_refused_and_stop(alloc);
     match first {
         Err(fault) if fault.kind == FaultKind::OutOfMemory => {
             let last = counted(capture.next(), sum);

@@ -4,7 +4,7 @@ use dm_connections::{Choice, Connections, Ends};
 use dm_flows::{Address, Endpoint, Segment};
 use dm_refusal::{
     End, Subject, end_of_answered_call, end_of_repeated_call, refuse_nth_request,
-    was_request_refused, worse_end,
+    was_request_refused_and_stop, worse_end,
 };
 use std::alloc::Global;
 use std::hash::RandomState;
@@ -79,7 +79,7 @@ fn take(
     let choice = Choice::Ports(&[3868]);
     refuse_nth_request(alloc, nth);
     let first = connections.take_if_held_or_wanted(choice, segment);
-    let refused = was_request_refused(alloc);
+    let refused = was_request_refused_and_stop(alloc);
     match first {
         Ok(ends) => (end_of_answered_call(refused, true), ends),
         Err(_) => match connections.take_if_held_or_wanted(choice, segment) {
@@ -113,7 +113,7 @@ fn next(
 ) -> (End, bool) {
     refuse_nth_request(alloc, nth);
     let first = connections.next_message_of(ends, from_first);
-    let refused = was_request_refused(alloc);
+    let refused = was_request_refused_and_stop(alloc);
     match first {
         Ok(message) => (end_of_answered_call(refused, true), count(message, told)),
         Err(_) => match connections.next_message_of(ends, from_first) {

@@ -4,7 +4,7 @@ use dm_capture::{Resolution, Time};
 use dm_flows::{Address, Endpoint};
 use dm_refusal::{
     End, Subject, end_of_answered_call, end_of_repeated_call, refuse_nth_request,
-    was_request_refused,
+    was_request_refused_and_stop,
 };
 use dm_trace::{Clock, Seen, Transport, put_seen, put_seen_members};
 use dm_view::JsonText;
@@ -80,7 +80,7 @@ fn end_of(alloc: Global, row: &Row<'_>, nth: u32) -> End {
     let mut text = String::new(alloc);
     refuse_nth_request(alloc, nth);
     let first = row.put(alloc, &mut text);
-    let refused = was_request_refused(alloc);
+    let refused = was_request_refused_and_stop(alloc);
     if first.is_err() {
         text.clear();
     }

@@ -5,7 +5,7 @@ use crate::rows::{CER, CER_OF_B, CER_OF_C, SUBMITTED, octets};
 use dm_node::{AddFault, Answer, Config, Conn, Node, Open, Order, OrderFault, PeerFault};
 use dm_refusal::{
     End, Subject, end_of_answered_call, end_of_repeated_call, refuse_nth_request,
-    was_request_refused, worse_end,
+    was_request_refused_and_stop, worse_end,
 };
 use std::alloc::{AllocError, Global};
 use std::process::Abort;
@@ -147,7 +147,7 @@ pub fn call_once(
 ) -> End {
     refuse_nth_request(alloc, nth);
     let first = respond(alloc, one, policy, call);
-    let refused = was_request_refused(alloc);
+    let refused = was_request_refused_and_stop(alloc);
     if first == Reply::Memory {
         let same = is_same_node(&one.node, &twin.node);
         return end_of_repeated_call(refused, same && call_both(alloc, one, twin, policy, call));
@@ -295,7 +295,7 @@ impl<R: Abort + AllocGlobal> Subject<R> for Adding<'_> {
         let second = config(rt, b"a.example", self.host, 4);
         refuse_nth_request(rt.alloc(), nth);
         let added = node.add(first);
-        let refused = was_request_refused(rt.alloc());
+        let refused = was_request_refused_and_stop(rt.alloc());
         let end = added_end(&mut node, second, added, refused);
         drop(node);
         end

@@ -5,7 +5,7 @@ use dm_dict::Ip;
 use dm_peer::{Action, Actions, Cause, Config, ConfigFault, Conn, Event, Node, Peer, PeerFault};
 use dm_refusal::{
     End, Subject, end_of_answered_call, end_of_repeated_call, refuse_nth_request,
-    was_request_refused, worse_end,
+    was_request_refused_and_stop, worse_end,
 };
 use std::alloc::Global;
 use std::process::Abort;
@@ -104,7 +104,7 @@ fn tell_both(alloc: Global, peer: &mut Peer, twin: &mut Peer, told: Event<'_>) -
 fn tell(alloc: Global, peer: &mut Peer, twin: &mut Peer, told: Event<'_>, nth: u32) -> End {
     refuse_nth_request(alloc, nth);
     let first = peer.on(alloc, told);
-    let refused = was_request_refused(alloc);
+    let refused = was_request_refused_and_stop(alloc);
     match first {
         Err(PeerFault::NoMemory) => {
             let same = is_same(peer, twin);
@@ -354,7 +354,7 @@ fn configure(rt: &(impl Abort + AllocGlobal), hosts: &Hosts<'_>, nth: u32) -> Co
     let other = Vec::from_slice(rt.alloc(), hosts.1).expect(rt, "memory");
     refuse_nth_request(rt.alloc(), nth);
     let made = Config::new(rt.alloc(), node, other, 1);
-    let refused = was_request_refused(rt.alloc());
+    let refused = was_request_refused_and_stop(rt.alloc());
     let right = is_as_expected(&made, hosts);
     (refused, right, made.err())
 }

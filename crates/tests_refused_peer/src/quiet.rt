@@ -3,7 +3,7 @@ use crate::peers::{config, node, peer};
 use crate::rows::*;
 use crate::scripts::{list_of, script};
 use dm_peer::{Cause, Config, Conn, Core, Event, Input, Peer, PeerFault, Refusal, State, step};
-use dm_refusal::{refuse_each_request, was_request_made};
+use dm_refusal::{refuse_each_request, was_request_made_and_stop};
 use dm_replay::Script;
 use dm_world::{Effect, Happening, Side, World, WorldFault};
 use std::alloc::Global;
@@ -11,7 +11,7 @@ use std::process::Abort;
 
 /// The answers are right, and no request was made for them.
 pub fn check_quiet(rt: &(impl Abort + AllocGlobal), right: bool) {
-    let asked = was_request_made(rt.alloc());
+    let asked = was_request_made_and_stop(rt.alloc());
     assert!(rt; !asked, "a request was made");
     assert!(rt; right, "another answer");
 }

@@ -6,7 +6,7 @@ use dm_history::running::run;
 use dm_peer::{Actions, Conn, Event, Peer, PeerFault};
 use dm_refusal::{
     End, Subject, end_of_answered_call, end_of_repeated_call, refuse_nth_request,
-    was_request_refused,
+    was_request_refused_and_stop,
 };
 use std::process::Abort;
 
@@ -61,7 +61,7 @@ fn end_beside(
     let all = run(twin, rt.alloc(), events);
     refuse_nth_request(rt.alloc(), nth);
     let first = run(one, rt.alloc(), events);
-    let refused = was_request_refused(rt.alloc());
+    let refused = was_request_refused_and_stop(rt.alloc());
     let count = first.replies.len();
     let rest = run(one, rt.alloc(), &events[count..]);
     let right = are_cut(

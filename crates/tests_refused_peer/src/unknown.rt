@@ -6,7 +6,7 @@ use dm_node::{Answer, Node, Open, Order, Strangers};
 use dm_peer::{Config, Conn, State};
 use dm_refusal::{
     End, Subject, end_of_answered_call, end_of_repeated_call, refuse_nth_request,
-    was_request_refused,
+    was_request_refused_and_stop,
 };
 use std::alloc::{AllocError, Global};
 use std::process::Abort;
@@ -69,7 +69,7 @@ fn hear_twice<S: Strangers>(
 ) -> End {
     refuse_nth_request(alloc, nth);
     let heard = node.hear(alloc, strangers, CONN, octets, answer);
-    let refused = was_request_refused(alloc);
+    let refused = was_request_refused_and_stop(alloc);
     if heard.is_err() {
         let same = is_empty(node);
         let again = node.hear(alloc, strangers, CONN, octets, answer);

@@ -3,7 +3,7 @@ use crate::each::each;
 use crate::scripts::{SCRIPTS, list_of, world};
 use dm_refusal::{
     End, Subject, end_of_answered_call, end_of_repeated_call, refuse_nth_request,
-    was_request_refused, worse_end,
+    was_request_refused_and_stop, worse_end,
 };
 use dm_world::{Effect, Happening, Side, World, WorldFault};
 use std::alloc::Global;
@@ -48,7 +48,7 @@ fn apply(
 ) -> End {
     refuse_nth_request(alloc, nth);
     let first = world.apply(alloc, happening);
-    let refused = was_request_refused(alloc);
+    let refused = was_request_refused_and_stop(alloc);
     if first == Err(WorldFault::NoMemory) {
         let same = is_same(world, twin);
         end_of_repeated_call(refused, same && apply_both(alloc, world, twin, happening))
@@ -117,7 +117,7 @@ fn go_on(alloc: Global, world: &mut World, twin: &mut World, rest: &[Happening])
 fn run(alloc: Global, world: &mut World, twin: &mut World, list: &[Happening], nth: u32) -> End {
     refuse_nth_request(alloc, nth);
     let (count, fault) = world.run(alloc, list);
-    let refused = was_request_refused(alloc);
+    let refused = was_request_refused_and_stop(alloc);
     let Some((front, rest)) = list.split_at_checked(count) else {
         return End::Fault;
     };

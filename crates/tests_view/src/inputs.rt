@@ -11,7 +11,7 @@ use std::io::{BufReader, Read};
 fn readers_end_their_lines(rt: HostRuntime) {
     let mut inputs = Inputs::new(rt.alloc());
     for text in &["a\nb", "", "\n", "c\n", "\r"] {
-        inputs.push(text.as_bytes()).expect(&rt, "memory");
+        inputs.push_as_lines(text.as_bytes()).expect(&rt, "memory");
     }
     let mut octets = Vec::new(rt.alloc());
     let count = inputs.read_to_end(&mut octets).expect(&rt, "readers");
@@ -90,7 +90,7 @@ fn said(alloc: Global, dictionary: &Dictionary, row: Row, size: usize) -> Option
             breaks: place == broken,
             reads: 0,
         };
-        if inputs.push(source).is_err() {
+        if inputs.push_as_lines(source).is_err() {
             return None;
         }
     }

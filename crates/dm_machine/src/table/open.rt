@@ -56,8 +56,9 @@ pub fn step_from_open(role: Role, x: Conn, count: u8, input: Input) -> Stepped
     }
 }
 
-/// A tick of the watchdog, of which RFC 6733, 5.6 says no more than that RFC 3539 "requires the use of watchdog
-/// messages to probe connections".
+/// A tick of the watchdog behind `count` others since something was heard: the first sends a DWR, the second nothing,
+/// the third closes. RFC 6733, 5.6 says no more of it than that RFC 3539 "requires the use of watchdog messages to
+/// probe connections".
 fn step_from_open_at_tick(role: Role, x: Conn, count: u8) -> Stepped
     requires { IsShapedPhase (Phase.Open role x count) }
     ensures accepted { role ≡ Accepted → (wins : Bool)

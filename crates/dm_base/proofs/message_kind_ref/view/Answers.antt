@@ -11,7 +11,7 @@ returns-in_default-clause-found c = λ l spelled.
 
 pub returns-in-Good-clause-found : goal.returns-in-Good-clause-found
 returns-in-Good-clause-found c = λ l spelled.
-    let listed = c.spelled_avps_are_members.ensures l spelled in
+    let listed = c.members_are_what_these_octets_spell.ensures l spelled in
     good_kind c.args.dictionary.now
     (record { header = c.args.message.now.header; avps = l }) c.kind_with_borrowed_parts.result c.args.message.now.rest.now
     c.in-Some.command (sym c.of.ensures ∙ c.in-Some.is) (sym (c.judge.ensures.verdict l spelled) ∙ ap shown c.in-Good.is)

@@ -12,5 +12,5 @@ returns-clause-spelled c =
     let to = c.args.to.now in
     let octets : c.push_success_avps.new.out.items ≡ canonical_message (built_answer n to success None) = search rules in
     let fits : to.command < 256 ^ 3 = rw c.header_of_answer.ensures.header at c.in-Some.ensures.spelled.command_fits in
-    success_spelled c.canonical_octets_spell_message.ensures c.octets_spell_built_messages.ensures.answer n to c.push_success_avps.new.out.items
+    success_spelled c.canonical_octets_spell_message.ensures c.built_messages_have_spellings.ensures.answer n to c.push_success_avps.new.out.items
     (c.header_of_answer.ensures.fits fits) octets

@@ -37,7 +37,7 @@ pub add_group_faults-returns-in_default : goal.add_group_faults-returns-in_defau
 add_group_faults-returns-in_default t c =
     under_done c.add_faults_under_rule.result
     (λ listed. rw c.in_default.is
-    (group_listed c.args.depth (λ e. omega (arith, e, c.if-depth-eq0.false)) c.args.dictionary.now.tables.avps.items
+    (group_listed c.args.groups_allowed (λ e. omega (arith, e, c.if-groups_allowed-eq0.false)) c.args.dictionary.now.tables.avps.items
     c.args.nth c.args.rule.entries.now (avp_of c.args.avp) None None (found None c.args.findings.now)
     (found None c.add_faults_under_rule.new.findings) refl (sym c.spells_avps.ensures ∙ c.if-not-spells_avps.false)
     (λ l is. listed l is)))
@@ -48,7 +48,7 @@ add_group_faults-returns t c =
     let outer = c.in-Some.path.now in
     let inner = c.inside-inside.result in
     rw c.in-Some.is
-    (group_listed c.args.depth (λ e. omega (arith, e, c.if-depth-eq0.false)) c.args.dictionary.now.tables.avps.items
+    (group_listed c.args.groups_allowed (λ e. omega (arith, e, c.if-groups_allowed-eq0.false)) c.args.dictionary.now.tables.avps.items
     c.args.nth c.args.rule.entries.now (avp_of c.args.avp) (Some outer) (Some inner) (found (Some outer) c.args.findings.now)
     (found (Some inner) c.add_faults_under_rule-2.new.findings) (ap Some c.inside-inside.ensures.inside)
     (sym c.spells_avps.ensures ∙ c.if-not-spells_avps.false)
@@ -71,7 +71,7 @@ add_each_avp_faults-loop-avp-preserved t c = λ all h.
       behind,
       omega (arith, longer, within, less),
       c.in_ok-nth.ensures.counted p fits numbered,
-      located_next path c.args.depth avps rule p m k a c.in_ok-nth.nth c.has_entry_allowing_avps-allowed.result _ _ _ is
+      located_next path c.args.groups_allowed avps rule p m k a c.in_ok-nth.nth c.has_entry_allowing_avps-allowed.result _ _ _ is
           (c.has_entry_allowing_avps-allowed.ensures ∙ ap allows c.look_up_avp_by_marks-place.ensures.entry)
           (c.in_ok-nth.ensures.nth p fits numbered) c.in_ok-add_avp_faults.ensures so_far,
     )

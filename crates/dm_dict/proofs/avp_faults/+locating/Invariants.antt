@@ -8,16 +8,16 @@ use Rattle.dm_dict.specs.Numbers.{AreNumbered}
 use Rattle.dm_dict.proofs.avp_faults.+locating.Given as goal
 
 abbrev pub decreases-add_faults_under_rule : goal.decreases-add_faults_under_rule
-decreases-add_faults_under_rule l = 4 * l.depth + 3
+decreases-add_faults_under_rule l = 4 * l.groups_allowed + 3
 
 abbrev pub decreases-add_each_avp_faults : goal.decreases-add_each_avp_faults
-decreases-add_each_avp_faults l = 4 * l.depth + 2
+decreases-add_each_avp_faults l = 4 * l.groups_allowed + 2
 
 abbrev pub decreases-add_avp_faults : goal.decreases-add_avp_faults
-decreases-add_avp_faults l = 4 * l.depth + 1
+decreases-add_avp_faults l = 4 * l.groups_allowed + 1
 
 abbrev pub decreases-add_group_faults : goal.decreases-add_group_faults
-decreases-add_group_faults l = 4 * l.depth
+decreases-add_group_faults l = 4 * l.groups_allowed
 
 -- the AVPs that are left come behind what is listed, and their groups are numbered on
 abbrev pub invariant-add_each_avp_faults-loop-avp : goal.invariant-add_each_avp_faults-loop-avp
@@ -26,9 +26,9 @@ invariant-add_each_avp_faults-loop-avp l =
     × (length p + size_of l.left ≤ size_of l.list)
     × AreNumbered (option_copied l.path) l.dictionary.tables.avps.items p l.numbers.entries
     × (found (option_copied l.path) l.findings
-    ++ map (told_behind (option_copied l.path)) (each_located (group_located l.depth l.dictionary.tables.avps.items) l.dictionary.tables.avps.items l.rule.entries.now p m)
+    ++ map (told_behind (option_copied l.path)) (each_located (group_located l.groups_allowed l.dictionary.tables.avps.items) l.dictionary.tables.avps.items l.rule.entries.now p m)
     ≡ found (option_copied l.path) l.fn.findings
-    ++ map (told_behind (option_copied l.path)) (each_located (group_located l.depth l.dictionary.tables.avps.items) l.dictionary.tables.avps.items l.rule.entries.now [] all))
+    ++ map (told_behind (option_copied l.path)) (each_located (group_located l.groups_allowed l.dictionary.tables.avps.items) l.dictionary.tables.avps.items l.rule.entries.now [] all))
 
 abbrev pub decreases-add_each_avp_faults-loop-avp : goal.decreases-add_each_avp_faults-loop-avp
 decreases-add_each_avp_faults-loop-avp l = size_of l.left

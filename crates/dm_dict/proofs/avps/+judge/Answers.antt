@@ -35,7 +35,7 @@ judge_list_from-loop-avp-preserved t c =
     let avps = c.args.dictionary.now.tables.avps.items in
     let rule = c.args.rule.entries.now in
     let a = avp_of c.in-Some.avp in
-    let G = group_faults c.args.depth avps in
+    let G = group_faults c.args.groups_allowed avps in
     let allowed = c.has_entry_allowing_avps-allowed.ensures ∙ ap allows c.look_up_avp_by_marks-place.ensures.entry in
     let good = looked_up G _ _ a _ _ allowed c.in-Good.ensures.fault in
     λ all h.
@@ -43,12 +43,12 @@ judge_list_from-loop-avp-preserved t c =
     let (k, is, behind) = c.in-Some.ensures.parts m listed in (
       k,
       behind,
-      one_passed c.args.depth avps rule all m k a _ _ _ before is good c.count_at_entry.ensures.size
-          c.count_at_entry.ensures.counted c.look_up_avp_by_marks-place.ensures.counts,
+      one_passed c.args.groups_allowed avps rule all m k a _ _ _ before is good c.count_avp_at_entry.ensures.size
+          c.count_avp_at_entry.ensures.counted c.look_up_avp_by_marks-place.ensures.counts,
     )
 
-pub judge_list_on_stack-judge_list_from-requires : goal.judge_list_on_stack-judge_list_from-requires
-judge_list_on_stack-judge_list_from-requires t c = (
+pub judge_list_with_stack_counters-judge_list_from-requires : goal.judge_list_with_stack_counters-judge_list_from-requires
+judge_list_with_stack_counters-judge_list_from-requires t c = (
   omega arith,
   (
     c.requires.linked,
@@ -59,7 +59,7 @@ judge_list_on_stack-judge_list_from-requires t c = (
         λ l h. (
           l,
           h,
-          none_passed c.args.depth c.args.dictionary.now.tables.avps.items c.args.rule.entries.now l _
+          none_passed c.args.groups_allowed c.args.dictionary.now.tables.avps.items c.args.rule.entries.now l _
               c.zero_counters-counts.ensures,
         ),
       ),

@@ -8,6 +8,6 @@ pub loop-at-preserved : goal.loop-at-preserved
 loop-at-preserved c =
     let at = c.loop-at.at in
     let entry = c.index-entries-at.result in
-    rw (c.least_counter.ensures, c.greatest_counter.ensures, c.loop-at.invariant)
+    rw (c.least_faultless_counter.ensures, c.greatest_faultless_counter.ensures, c.loop-at.invariant)
     (both_more least_bound greatest_bound c.args.entries.now at c.args.room entry (omega arith) c.requires.room
     c.index-entries-at.is)

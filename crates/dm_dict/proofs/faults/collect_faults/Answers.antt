@@ -10,7 +10,7 @@ pub returns-clause-all : goal.returns-clause-all
 returns-clause-all c =
     handed_ok c.add_message_faults_if_bad-done.result c.add_message_faults_if_bad-done.new.findings.faults _ _ c.and.ensures
     (under_done c.add_message_faults_if_bad-done.result
-    (λ all l lists. found_without_paths (all_told c.new-findings.result.faults.items) _ _
-    (ap all_told c.new-findings.ensures.faults) (all l lists)
+    (λ all l lists. found_without_paths (all_told c.empty-findings.result.faults.items) _ _
+    (ap all_told c.empty-findings.ensures.faults) (all l lists)
     ∙ located_are_faults (defined c.args.dictionary.now.tables) (record { header = c.args.header.now; avps = l }))
     c.add_message_faults_if_bad-done.ensures.all)

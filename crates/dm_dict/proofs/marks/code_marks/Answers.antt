@@ -7,9 +7,9 @@ use Rattle.dm_dict.proofs.marks.code_marks.Goals as goal
 pub loop-place-preserved : goal.loop-place-preserved
 loop-place-preserved c =
     let marks = c.loop-place.marks in
-    let mark = c.mark_after_noting.result in
+    let mark = c.mark_keeping_first.result in
     let avp = c.index-avps-place.result in
-    let some : 0 < mark = rw c.mark_after_noting.ensures (some_mark (get_or marks (avp.code % 512) 0) c.loop-place.place) in (
+    let some : 0 < mark = rw c.mark_keeping_first.ensures (some_mark (get_or marks (avp.code % 512) 0) c.loop-place.place) in (
       length-set marks _ mark ∙ c.loop-place.invariant.0,
       marked_step c.args.avps.now c.loop-place.place avp avp marks mark c.loop-place-test.true
           c.index-avps-place.is c.loop-place.invariant.0 some c.loop-place.invariant.1,

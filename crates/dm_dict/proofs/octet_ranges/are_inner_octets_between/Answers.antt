@@ -7,13 +7,13 @@ use Rattle.dm_dict.proofs.octet_ranges.are_inner_octets_between.Goals as goal
 pub returns-then-not-are_marks_zero : goal.returns-then-not-are_marks_zero
 returns-then-not-are_marks_zero c =
     sym (run_fails (is_in_range c.args.least c.args.most) c.args.octets.now c.loop-at.at
-    (sym c.range_marks.ensures ∙ sym c.if-not-are_marks_zero.ensures))
+    (sym c.range_excess.ensures ∙ sym c.if-not-are_marks_zero.ensures))
 
 pub loop-at-preserved : goal.loop-at-preserved
 loop-at-preserved c = (
   omega arith,
   run_more (is_in_range c.args.least c.args.most) c.args.octets.now c.loop-at.at c.loop-at.invariant.1
-      (sym c.range_marks.ensures ∙ sym c.if-not-are_marks_zero.ensures),
+      (sym c.range_excess.ensures ∙ sym c.if-not-are_marks_zero.ensures),
 )
 
 pub returns : goal.returns

@@ -14,9 +14,9 @@ none (Some n) h = absurd (cc)
 
 pub returns-then-def-eq-FAILED_AVP : goal.returns-then-def-eq-FAILED_AVP
 returns-then-def-eq-FAILED_AVP c = λ groups a at yes.
-    let d = c.def_at-def.result.now in
+    let d = c.avp_def_at-def.result.now in
     let found : find (is_coded a.code a.vendor) c.args.dictionary.now.tables.avps.items ≡ Some d =
-    sym (c.def_at-def.ensures ∙ at) in
+    sym (c.avp_def_at-def.ensures ∙ at) in
     let own = found_one (is_coded a.code a.vendor) _ d found in
     let (code, vendor) = and_parts (nat_eq a.code d.code) (option_eq nat_eq a.vendor d.vendor) own in
     let same : a.code ≡ 279 = eqb-true a.code d.code code ∙ c.if-def-eq-FAILED_AVP.true in

@@ -3,8 +3,8 @@ use Rattle.std.specs.List.{list_any}
 use Rattle.dm_tables.specs.Definitions.{is_named}
 use Rattle.dm_dict_text.proofs.checks.is_avp_defined.Goals as goal
 
-pub returns-else-has_avp_named_by_guess : goal.returns-else-has_avp_named_by_guess
-returns-else-has_avp_named_by_guess c =
+pub returns-else-has_avp_by_own_name_guesses : goal.returns-else-has_avp_by_own_name_guesses
+returns-else-has_avp_by_own_name_guesses c =
     let none : list_any (is_named c.args.name.now) c.args.tables.now.avps.items ≡ false =
-    sym c.has_avp_named_by_guess.ensures ∙ c.if-has_avp_named_by_guess.false in
+    sym c.has_avp_by_own_name_guesses.ensures ∙ c.if-has_avp_by_own_name_guesses.false in
     rw none c.is_stray.ensures

@@ -48,7 +48,7 @@ add_avp_or_stray-requires-clause-sound c =
     (empty_rule c.empty.result none) (empty_kind c.unwrap_or-2.result c.empty.result none)
     (sound_list values c.in_ok-values.values list worded good)
     (listing_kind c.args.item.now.kind.text.now values c.unwrap_or-2.result c.in_ok-values.values may
-    (c.unwrap_or-2.ensures ∙ ap (λ o. unwrap_or o OctetString) c.type_named.ensures) list)
+    (c.unwrap_or-2.ensures ∙ ap (λ o. unwrap_or o OctetString) c.ungrouped_type_named.ensures) list)
 
 pub returns-clause-added : goal.returns-clause-added
 returns-clause-added c =
@@ -58,7 +58,7 @@ returns-clause-added c =
     let values = map view_value c.args.item.now.values.items in
     let seen : map view_value c.as_slice.result.now ≡ values = ap (map view_value) c.as_slice.ensures.value in
     let list = list_is values c.in_ok-values.values (c.in_ok-values.ensures.value ∙ ap (fold with_value []) seen) in
-    let kind = c.unwrap_or-2.ensures ∙ ap (λ o. unwrap_or o OctetString) c.type_named.ensures in
+    let kind = c.unwrap_or-2.ensures ∙ ap (λ o. unwrap_or o OctetString) c.ungrouped_type_named.ensures in
     let avp : AvpDef =
     record {
       name = c.in_ok-name.name;

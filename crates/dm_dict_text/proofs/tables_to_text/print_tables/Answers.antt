@@ -12,4 +12,4 @@ returns-clause-again c =
     let text : c.push_tables.new.text.items ≡ printed d =
     c.in_ok-push_tables.ensures ∙ ap (λ t. t ++ printed d) c.new-text.ensures.items in
     subst (λ (t : List ℕ). Defines t nothing_defined d) (sym text)
-    (printed_again c.words_beyond_digits_are_names.ensures.name d c.requires.tables.sound c.requires.closed)
+    (printed_again c.words_not_all_digits_are_names.ensures.name d c.requires.tables.sound c.requires.closed)

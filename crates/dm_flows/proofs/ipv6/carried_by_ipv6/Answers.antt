@@ -6,7 +6,7 @@ pub returns-in-Ok-clause-carried : goal.returns-in-Ok-clause-carried
 returns-in-Ok-clause-carried c =
     carries_upper c.args.octets.now c.captured_payload.result.now c.in-Ok.upper.payload.now c.in-Ok.upper.protocol _
     c.if-octets-lt-HEADER_LEN.false c.if-octets-ne6.false c.captured_payload.ensures c.in-Ok.ensures.upper
-    c.carried_with_upper.ensures
+    c.carried_with_upper_layer.ensures
 
 pub returns-in-Err-Fragmented-clause-fault : goal.returns-in-Err-Fragmented-clause-fault
 returns-in-Err-Fragmented-clause-fault c =

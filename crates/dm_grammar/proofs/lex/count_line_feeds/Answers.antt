@@ -11,6 +11,6 @@ returns-clause-value c =
     let behind = 16 * (length text / 16) in
     let rest = drop behind text in
     let all = take_all (length text - behind) rest (omega (arith, length-drop behind text)) in
-    ap (λ n. n + c.count_line_feeds_in_few.result) c.count_line_feeds_in_runs.ensures.value
+    ap (λ n. n + c.count_line_feeds_in_few.result) c.count_line_feeds_by_sixteens.ensures.value
     ∙ ap (λ n. count_by is_line_feed (take behind text) + n) (c.count_line_feeds_in_few.ensures.value ∙ ap (count_by is_line_feed) all)
     ∙ feeds_apart text behind

@@ -21,11 +21,11 @@ loop-at-preserved c =
 
 pub returns-else-first-eq59-clause-next : goal.returns-else-first-eq59-clause-next
 returns-else-first-eq59-clause-next c =
-    let lex : c.first_lexeme-symbol.result ≡ lexeme_of
-    (drop c.loop-at.at c.args.text.now) = rw take_rest at c.first_lexeme-symbol.ensures.value in
+    let lex : c.first_symbol_and_len-symbol.result ≡ lexeme_of
+    (drop c.loop-at.at c.args.text.now) = rw take_rest at c.first_symbol_and_len-symbol.ensures.value in
     let space : is_space (slice_index_or c.args.text.now c.loop-at.at 0) ≡ false = grind (arith, common_steps) in
-    let some : 0 < (lexeme_of (drop c.loop-at.at c.args.text.now)).1 = rw (← lex) c.first_lexeme-symbol.ensures.some in
-    let len : c.loop-at.at + c.first_lexeme-symbol.result.1 - c.loop-at.at ≡ c.first_lexeme-symbol.result.1 =
+    let some : 0 < (lexeme_of (drop c.loop-at.at c.args.text.now)).1 = rw (← lex) c.first_symbol_and_len-symbol.ensures.some in
+    let len : c.loop-at.at + c.first_symbol_and_len-symbol.result.1 - c.loop-at.at ≡ c.first_symbol_and_len-symbol.result.1 =
     omega arith in
     sym c.loop-at.invariant.same
     ∙ (token_at c.args.text.now c.loop-at.at c.loop-at.line c.loop-at-test.true c.if-first-eq10.false space

@@ -7,20 +7,20 @@ returns c =
     carries (record {
       steps = record {
         form = c.shaped_nodes_have_eight_forms.ensures.formed;
-        caused = c.made_taken_and_open_connections_have_causes.ensures;
-        asked = c.ceas_open_and_what_is_given_up_is_closed.ensures.asked;
-        closes = c.what_unread_messages_say_makes_no_difference.ensures.rejected;
-        closed = c.ceas_open_and_what_is_given_up_is_closed.ensures.closed;
-        commands = c.each_order_is_a_command.ensures.command;
-        orders = c.each_order_is_a_command.ensures.order;
+        caused = c.acked_taken_and_open_connections_have_causes.ensures;
+        asked = c.ceas_open_and_cers_go_at_acks.ensures.asked;
+        closes = c.messages_do_the_same_where_unread.ensures.rejected;
+        closed = c.given_up_is_closed_others_left_alone.ensures.closed;
+        commands = c.connection_orders_are_its_commands.ensures.command;
+        orders = c.connection_orders_are_its_commands.ensures.order;
         fresh = c.each_event_keeps_peers_settled.ensures.fresh;
         kept = c.each_event_keeps_peers_settled.ensures.kept;
       };
-      accepted = c.ceas_open_and_what_is_given_up_is_closed.ensures.accepted;
+      accepted = c.ceas_open_and_cers_go_at_acks.ensures.accepted;
       answers = c.dwas_dpas_and_refusals_have_requests.ensures;
       submits = c.open_connections_carry_user_messages.ensures.submits;
       up = c.open_connections_carry_user_messages.ensures.up;
       each = c.open_connections_carry_user_messages.ensures.each;
       one = c.open_connections_carry_user_messages.ensures.one;
-      apart = c.each_order_is_a_command.ensures.apart;
+      apart = c.connection_orders_are_its_commands.ensures.apart;
     })

@@ -5,12 +5,12 @@ use Rattle.dm_history.proofs.laws.ended_connections_stay_silent_until_named.Goal
 pub returns : goal.returns
 returns c =
     let laws : CloseLaws = record {
-      changes = c.each_connection_changes_as_allowed.ensures;
+      changes = c.connection_changes_and_orders_are_allowed.ensures;
       fresh = c.each_event_keeps_peers_settled.ensures.fresh;
       kept = c.each_event_keeps_peers_settled.ensures.kept;
-      closed = c.ceas_open_and_what_is_given_up_is_closed.ensures.closed;
-      alone = c.ceas_open_and_what_is_given_up_is_closed.ensures.alone;
-      last = c.ceas_open_and_what_is_given_up_is_closed.ensures.last;
-      orders = c.each_order_is_a_command.ensures.order;
+      closed = c.given_up_is_closed_others_left_alone.ensures.closed;
+      alone = c.given_up_is_closed_others_left_alone.ensures.alone;
+      last = c.given_up_is_closed_others_left_alone.ensures.last;
+      orders = c.connection_orders_are_its_commands.ensures.order;
     } in
     record { last = ended_is_last laws; behind = nothing_follows laws }

@@ -8,7 +8,7 @@ returns-clause-history c =
 
 pub returns-clause-in_order : goal.returns-clause-in_order
 returns-clause-in_order c =
-    c.each_run_hands_up_in_order.ensures c.args.peer.now _ c.tell_events_while_memory_lasts.new.peer c.every_peer_is_settled_with_fitting_numbers.ensures.settled
+    c.runs_hand_up_all_in_order.ensures c.args.peer.now _ c.tell_events_while_memory_lasts.new.peer c.every_peer_is_settled_with_fitting_numbers.ensures.settled
     (replied_lived _ _ _ _ c.tell_events_while_memory_lasts.ensures.replied)
 
 pub returns-clause-sent : goal.returns-clause-sent

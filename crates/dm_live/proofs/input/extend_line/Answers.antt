@@ -11,7 +11,7 @@ returns-in-Err-clause-taken g c =
 pub returns-clause-taken : goal.returns-clause-taken
 returns-clause-taken g c =
     let rested = c.fill_buf.follows.lender-at-none in
-    let end = c.line_part_end-end.ensures in
+    let end = c.line_part_len_and_is_last-end.ensures in
     let filled = subst (FillKeeps _ (g.R.Read.remaining rested) (g.R.BufRead.consumable_len rested)) c.in-Ok.is
     c.fill_buf.follows.holds-at-none in
     took _ (g.R.Read.remaining rested) _ _ c.in-Ok.octets.now c.args.line.now.items _ _ _ end.bound end.some end.stops

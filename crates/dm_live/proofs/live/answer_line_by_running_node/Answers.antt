@@ -25,4 +25,4 @@ returns-in-None c =
     (λ o. TellsOrder c.args.form (told_order o) c.args.line.now) in
     untold_line _ _ c.args.form c.args.line.now (meeting_of c.args.node.now) _ _
     (none-holds ((i : ℕ) → IsSender c.args.form i c.args.line.now → ⊥) c.read_sender_line.result c.in_default.is
-    c.read_sender_line.ensures.none) (subst Read c.in-None.is c.in_ok-order.ensures) c.put_fault_answer.ensures
+    c.read_sender_line.ensures.none) (subst Read c.in-None.is c.in_ok-order.ensures) c.put_fault_line_and_dot.ensures

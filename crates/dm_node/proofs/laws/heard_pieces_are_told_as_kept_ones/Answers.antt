@@ -4,7 +4,7 @@ use Rattle.dm_node.proofs.HeardOut.{heard_out}
 use Rattle.dm_node.proofs.laws.heard_pieces_are_told_as_kept_ones.Goals as goal
 
 pub returns-clause-turn : goal.returns-clause-turn
-returns-clause-turn c = heard_alike c.at_most_one_frame_is_in_front.ensures.fault
+returns-clause-turn c = heard_alike c.frame_or_fault_excludes_others.ensures.fault
 
 pub returns-clause-out : goal.returns-clause-out
 returns-clause-out c = heard_out

@@ -29,7 +29,7 @@ returns-clause-roster c = λ hosts count roster.
     let i = c.args.index in
     let was = found ps i _ _ c.index_mut.ensures.value c.in-Some.is c.requires.there in
     let is = set_here ps i _ c.requires.there in
-    let left = leaves c.done_events_are_steps_or_drops.ensures c.ceas_open_and_what_is_given_up_is_closed.ensures.alone _ _ _
+    let left = leaves c.done_events_are_steps_or_drops.ensures c.given_up_is_closed_others_left_alone.ensures.alone _ _ _
     c.state-state.ensures.shaped
     (done_or_same c.on_into-done.new.actions.items _ _ _ c.on_into-done.result c.on_into-done.ensures.acts
     c.on_into-done.ensures.unchanged) in

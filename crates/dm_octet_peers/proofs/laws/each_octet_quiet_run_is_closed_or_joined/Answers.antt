@@ -8,6 +8,6 @@ returns c =
       machine = c.octet_peers_move_as_the_machine.ensures;
       closed = c.closed_peers_make_a_sound_world.ensures;
       sounds = c.each_happening_keeps_worlds_sound.ensures;
-      fresh = c.each_happening_keeps_peers_paired.ensures.fresh;
-      keeps = c.each_happening_keeps_peers_paired.ensures.kept;
+      fresh = c.octet_peers_begin_and_stay_paired.ensures.fresh;
+      keeps = c.octet_peers_begin_and_stay_paired.ensures.kept;
     }) c.quiet_octet_peers_are_closed_or_joined.ensures

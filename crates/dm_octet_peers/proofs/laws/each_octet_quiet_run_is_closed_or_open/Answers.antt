@@ -8,6 +8,6 @@ returns c =
       machine = c.octet_peers_move_as_the_machine.ensures;
       closed = c.closed_peers_make_a_sound_world.ensures;
       sounds = c.each_happening_keeps_worlds_sound.ensures;
-      fresh = c.each_happening_keeps_peers_paired.ensures.fresh;
-      keeps = c.each_happening_keeps_peers_paired.ensures.kept;
-    }) c.paired_octet_peers_elect_one.ensures c.octet_peers_match_ceas_and_dpas.ensures
+      fresh = c.octet_peers_begin_and_stay_paired.ensures.fresh;
+      keeps = c.octet_peers_begin_and_stay_paired.ensures.kept;
+    }) c.paired_octet_peers_hear_and_elect.ensures c.ceas_and_dpas_match_their_requests.ensures

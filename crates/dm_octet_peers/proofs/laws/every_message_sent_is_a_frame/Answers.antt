@@ -5,13 +5,13 @@ pub returns : goal.returns
 returns c =
     octets_are_frames
     (record {
-      cer = c.octets_spell_built_messages.ensures.cer;
-      cea = c.octets_spell_built_messages.ensures.cea;
-      dwr = c.octets_spell_built_messages.ensures.dwr;
-      dpr = c.octets_spell_built_messages.ensures.dpr;
-      answer = c.octets_spell_built_messages.ensures.answer;
-      error = c.octets_spell_built_messages.ensures.error;
+      cer = c.built_messages_have_spellings.ensures.cer;
+      cea = c.built_messages_have_spellings.ensures.cea;
+      dwr = c.built_messages_have_spellings.ensures.dwr;
+      dpr = c.built_messages_have_spellings.ensures.dpr;
+      answer = c.built_messages_have_spellings.ensures.answer;
+      error = c.built_messages_have_spellings.ensures.error;
       within = c.message_in_octets_is_what_they_spell.ensures;
-      spelled = c.spelled_messages_are_frames.ensures.spelled;
-      canonical = c.spelled_messages_are_frames.ensures.canonical;
+      spelled = c.spelled_and_canonical_messages_are_frames.ensures.spelled;
+      canonical = c.spelled_and_canonical_messages_are_frames.ensures.canonical;
     })

@@ -6,4 +6,4 @@ pub returns-clause-fresh : goal.returns-clause-fresh
 returns-clause-fresh c = fresh_is_settled
 
 pub returns-clause-kept : goal.returns-clause-kept
-returns-clause-kept c = each_event_keeps_settled c.few_steps_stand_for_all.ensures c.each_step_keeps_shape.ensures
+returns-clause-kept c = each_event_keeps_settled c.few_steps_stand_for_all.ensures c.steps_keep_shape_in_few_commands.ensures

@@ -12,10 +12,10 @@ returns-clause-kept c =
       few = c.few_steps_stand_for_all.ensures;
       within = c.message_in_octets_is_what_they_spell.ensures;
       canonical = c.canonical_octets_spell_message.ensures;
-      cer = c.octets_spell_built_messages.ensures.cer;
-      cea = c.octets_spell_built_messages.ensures.cea;
-      dwr = c.octets_spell_built_messages.ensures.dwr;
-      dpr = c.octets_spell_built_messages.ensures.dpr;
-      answer = c.octets_spell_built_messages.ensures.answer;
-      error = c.octets_spell_built_messages.ensures.error;
+      cer = c.built_messages_have_spellings.ensures.cer;
+      cea = c.built_messages_have_spellings.ensures.cea;
+      dwr = c.built_messages_have_spellings.ensures.dwr;
+      dpr = c.built_messages_have_spellings.ensures.dpr;
+      answer = c.built_messages_have_spellings.ensures.answer;
+      error = c.built_messages_have_spellings.ensures.error;
     })

@@ -14,7 +14,7 @@ step_peer-requires-clause-goes c =
     let e = event_told c.args.event in
     let m : Message = record { header = c.args.message.now.header; avps = goes.0 } in
     let stays : is_dropped p c.args.conn m.header ≡ false =
-    cc (c.is_message_dropped.ensures, c.if-is_message_dropped.ensures, c.requires.footing) in
+    cc (c.is_answer_dropped.ensures, c.if-is_answer_dropped.ensures, c.requires.footing) in
     goes.2
     ∙ ap (λ b. if b then Moved [] p else steps p e (Some (heard_in p.config m))) stays
     ∙ ap (λ h. steps p e (Some h)) (sym (c.hear_message.ensures goes.0 goes.1))

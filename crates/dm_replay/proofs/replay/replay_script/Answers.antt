@@ -5,7 +5,7 @@ use Rattle.dm_replay.proofs.replay.replay_script.Goals as goal
 
 pub returns-in-Ok : goal.returns-in-Ok
 returns-in-Ok c =
-    replayed c.args.script c.in-Ok.world c.replay_happenings-good.new.text.items c.new-text.result.items
+    replayed c.args.script c.in-Ok.world c.push_whole_replay-good.new.text.items c.new-text.result.items
     c.in_ok-good-in-Ok.field-0 c.in-Ok.ensures.world c.in-Ok.ensures.fine
     c.new-text.ensures.items
     (c.in_ok-good-in-Ok.ensures.text ∙ ap

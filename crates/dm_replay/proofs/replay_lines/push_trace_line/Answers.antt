@@ -10,7 +10,7 @@ returns c =
       c.in_ok-push_state_and_connections-2.ensures,
       c.in_ok-extend_from_slice.ensures.items,
       c.in_ok-push_state_and_connections.ensures,
-      c.in_ok-push_effect_and_side_a.ensures,
+      c.in_ok-push_spaced_effect_and_side_a.ensures,
       c.in_ok-push_decimal.ensures,
       c.peer.ensures,
       c.peer-2.ensures,

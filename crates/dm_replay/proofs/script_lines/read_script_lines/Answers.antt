@@ -27,7 +27,7 @@ loop-line-preserved c =
       lines-next c.args.text.now c.in-Some.line.now c.loop-line.line-iterator c.next.new.self before
           c.loop-line.invariant.1 c.in-Some.ensures.steps,
       ap (λ n. n + 1) c.loop-line.invariant.2 ∙ sym (length-append before (c.in-Some.line.now ∷ [])),
-      subst After (sym (c.lines_of_parts_are_lines_of_whole.ensures.content before (c.in-Some.line.now ∷ [])))
+      subst After (sym (c.joined_lines_have_joined_content.ensures before (c.in-Some.line.now ∷ [])))
           (c.in_ok-take_line.ensures.taken c.if-not-branch.false (content before) c.loop-line.invariant.3),
     )
 

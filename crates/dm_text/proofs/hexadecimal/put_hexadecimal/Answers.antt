@@ -16,7 +16,7 @@ loop-rest-preserved c =
     let (passed, whole, put) = c.loop-rest.invariant in (
       passed ++ some,
       more_passed _ passed _ some _ _ whole c.split_at.ensures.front c.split_at.ensures.back,
-      c.in_ok-put_hex_piece.ensures ∙ ap (λ t. t ++ encode_lower some) put ∙ append_assoc old (encode_lower passed) (encode_lower some)
+      c.in_ok-put_hex_at_once.ensures ∙ ap (λ t. t ++ encode_lower some) put ∙ append_assoc old (encode_lower passed) (encode_lower some)
           ∙ ap (λ l. old ++ l) (sym (encode_with-append lower_digits passed some)),
     )
 

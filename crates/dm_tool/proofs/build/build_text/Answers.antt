@@ -7,14 +7,14 @@ use Rattle.dm_tool.proofs.build.build_text.Goals as goal
 
 pub overflow_add-before : goal.overflow_add-before
 overflow_add-before c =
-    let most = line_counts c.lines_of_parts_are_lines_of_whole.ensures.few c.args.input.now c.in-Some.line.now
+    let most = line_counts c.octet_count_bounds_line_count.ensures c.args.input.now c.in-Some.line.now
     c.loop-line.line-iterator c.next.new.self
     c.loop-line.invariant.0 c.loop-line.invariant.1 c.in-Some.ensures.steps in
     omega (arith, most, c.loop-line.invariant.2)
 
 pub overflow_add-before-in-loop-line : goal.overflow_add-before-in-loop-line
 overflow_add-before-in-loop-line c =
-    let most = line_counts c.lines_of_parts_are_lines_of_whole.ensures.few c.args.input.now c.in-Some.line.now
+    let most = line_counts c.octet_count_bounds_line_count.ensures c.args.input.now c.in-Some.line.now
     c.loop-line.line-iterator c.next.new.self
     c.loop-line.invariant.0 c.loop-line.invariant.1 c.in-Some.ensures.steps in
     omega (arith, most, c.loop-line.invariant.2)
@@ -45,7 +45,7 @@ loop-line-preserved c =
       lines-next c.args.input.now c.in-Some.line.now c.loop-line.line-iterator c.next.new.self c.loop-line.invariant.0
           c.loop-line.invariant.1 c.in-Some.ensures.steps,
       ap (λ n. n + 1) c.loop-line.invariant.2 ∙ sym (length-append c.loop-line.invariant.0 (c.in-Some.line.now ∷ [])),
-      subst Lines (sym (c.lines_of_parts_are_lines_of_whole.ensures.content c.loop-line.invariant.0 (c.in-Some.line.now ∷ [])))
+      subst Lines (sym (c.joined_lines_have_joined_content.ensures c.loop-line.invariant.0 (c.in-Some.line.now ∷ [])))
           (c.in_ok-take_line.ensures.taken c.if-not-branch.false (content c.loop-line.invariant.0)
           c.loop-line.invariant.3),
     )

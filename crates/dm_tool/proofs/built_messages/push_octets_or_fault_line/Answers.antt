@@ -14,8 +14,8 @@ returns-in_ok-push-in-Ok-clause-built c =
 pub returns-in_ok-push-in-Err-clause-built : goal.returns-in_ok-push-in-Err-clause-built
 returns-in_ok-push-in-Err-clause-built c = elim c.in-Err.ensures.fault [
   | inl long ↦ built_fault c.args.message.now c.in-Err.fault c.args.text.now.items
-      c.push_message_fault.new.text.items c.push-in-Err.new.self.items long
+      c.push_message_fault_words.new.text.items c.push-in-Err.new.self.items long
       (c.in-Err.ensures.unspelled.0 (ap Err long))
-      c.in_ok-push_message_fault-in-Err.ensures.words c.in_ok-push-in-Err.ensures.items
-  | inr none ↦ absurd (c.in_ok-push_message_fault-in-Err.ensures.known none)
+      c.in_ok-push_message_fault_words-in-Err.ensures.words c.in_ok-push-in-Err.ensures.items
+  | inr none ↦ absurd (c.in_ok-push_message_fault_words-in-Err.ensures.known none)
 ]

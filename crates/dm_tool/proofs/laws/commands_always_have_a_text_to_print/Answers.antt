@@ -25,5 +25,5 @@ returns c =
       reads_back = c.encoded_messages_read_back.ensures;
       equal_messages = c.equal_messages_are_the_same.ensures;
       no_message_refused = c.octets_of_messages_have_no_fault.ensures;
-      joined = c.lines_of_parts_are_lines_of_whole.ensures.content;
+      joined = c.joined_lines_have_joined_content.ensures;
     }) c.each_text_defines_or_has_fault.ensures c.each_text_has_a_replay.ensures.replay

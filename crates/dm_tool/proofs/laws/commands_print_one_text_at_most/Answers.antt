@@ -27,8 +27,8 @@ returns c =
       no_message_refused = c.octets_of_messages_have_no_fault.ensures;
     })
     (record {
-      one_definition = c.each_text_defines_one_whole_at_most.ensures;
+      one_definition = c.each_text_defines_one_dictionary_at_most.ensures;
       one_fault = c.each_text_has_one_first_fault_at_most.ensures;
       no_definition_refused = c.defining_texts_have_no_fault.ensures;
     })
-    c.lines_of_parts_are_lines_of_whole.ensures.content c.no_text_has_two_replays.ensures.replay
+    c.joined_lines_have_joined_content.ensures c.one_reading_and_replay_at_most.ensures.replay

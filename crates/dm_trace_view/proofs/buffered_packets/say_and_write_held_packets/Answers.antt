@@ -16,4 +16,4 @@ returns-in-Err-clause-stopped g c =
     let e = c.texts_gathered_in_turn_gather_as_one.ensures in
     let laws = gathering e.nothing e.turns e.writes e.fails e.leaves_nothing e.leaves in
     stops-settled _ _ laws _ _ _ _ _ _ _ [] _ (unwaiting-stops _ _ _ _ _ _ _ _ _ c.requires.none c.in-Err.ensures.stopped)
-    c.write_waiting_after_fault.ensures
+    c.write_waiting_unless_write_failed.ensures

@@ -16,7 +16,7 @@ loop-preserved g c =
     let laws = gathering e.nothing e.turns e.writes e.fails e.leaves_nothing e.leaves in
     let hands = rw c.in-Ok-Some.field-0-is at (c.in-Ok-Some.ensures.hands c.loop.invariant.sound) in
     record {
-      so = holds_next _ _ laws c.cuts_change_no_packets.ensures.joins _ _ _ _ _ _ c.in-Ok-Some.packet _ _ _ _ _ _ c.loop.invariant.so
+      so = holds_next _ _ laws c.read_items_stay_and_runs_join.ensures.joins _ _ _ _ _ _ c.in-Ok-Some.packet _ _ _ _ _ _ c.loop.invariant.so
           hands c.in_ok-put-in-Ok-Some.ensures.told;
       sound = lead-fault _ _ hands.0 hands.1 ∙ c.loop.invariant.sound;
     }
@@ -28,7 +28,7 @@ returns-in_err-put-in-Ok-Some-clause-stopped g c =
     let laws = gathering e.nothing e.turns e.writes e.fails e.leaves_nothing e.leaves in
     let hands = rw c.in-Ok-Some.field-0-is at (c.in-Ok-Some.ensures.hands c.loop.invariant.sound) in
     handed_on _ _ c.in_err-put-in-Ok-Some.field-0.0 c.from_residual.ensures.1
-    (holds_stops _ _ laws c.cuts_change_no_packets.ensures.joins _ _ _ _ _ c.in-Ok-Some.packet _ _ _ _ _ _ _ c.loop.invariant.so hands
+    (holds_stops _ _ laws c.read_items_stay_and_runs_join.ensures.joins _ _ _ _ _ c.in-Ok-Some.packet _ _ _ _ _ _ _ c.loop.invariant.so hands
     c.in_err-put-in-Ok-Some.ensures.stopped)
 
 pub returns-in-Ok-None-clause-told : goal.returns-in-Ok-None-clause-told
@@ -36,7 +36,7 @@ returns-in-Ok-None-clause-told g c =
     let e = c.texts_gathered_in_turn_gather_as_one.ensures in
     let laws = gathering e.nothing e.turns e.writes e.fails e.leaves_nothing e.leaves in
     let hands = rw c.in-Ok-None.field-0-is at (c.in-Ok-None.ensures.hands c.loop.invariant.sound) in
-    holds_end _ _ laws c.cuts_change_no_packets.ensures.joins _ _ _ _ _ _ _ _ _ c.loop.invariant.so hands
+    holds_end _ _ laws c.read_items_stay_and_runs_join.ensures.joins _ _ _ _ _ _ _ _ _ c.loop.invariant.so hands
 
 pub returns-in-Ok-None-clause-sound : goal.returns-in-Ok-None-clause-sound
 returns-in-Ok-None-clause-sound g c is =
@@ -48,7 +48,7 @@ returns-in-Err-clause-told g c =
     let e = c.texts_gathered_in_turn_gather_as_one.ensures in
     let laws = gathering e.nothing e.turns e.writes e.fails e.leaves_nothing e.leaves in
     let hands = c.in-Err.ensures.hands c.loop.invariant.sound in
-    holds_fault _ _ laws c.cuts_change_no_packets.ensures.joins c.fault_or_want_of_memory.result c.in-Err.fault _ _ _ _ _ _ _ _ _
+    holds_fault _ _ laws c.read_items_stay_and_runs_join.ensures.joins c.fault_or_want_of_memory.result c.in-Err.fault _ _ _ _ _ _ _ _ _
     c.loop.invariant.so hands c.fault_or_want_of_memory.ensures.fault
 
 pub returns-in-Err-clause-stopped : goal.returns-in-Err-clause-stopped
@@ -56,11 +56,11 @@ returns-in-Err-clause-stopped g c =
     let e = c.texts_gathered_in_turn_gather_as_one.ensures in
     let laws = gathering e.nothing e.turns e.writes e.fails e.leaves_nothing e.leaves in
     let hands = c.in-Err.ensures.hands c.loop.invariant.sound in
-    holds_none _ _ laws c.cuts_change_no_packets.ensures.joins c.fault_or_want_of_memory.result c.in-Err.fault _ _ _ _ _ _ _ _ _
+    holds_none _ _ laws c.read_items_stay_and_runs_join.ensures.joins c.fault_or_want_of_memory.result c.in-Err.fault _ _ _ _ _ _ _ _ _
     c.loop.invariant.so hands
 
 pub returns-clause-stopped : goal.returns-clause-stopped
 returns-clause-stopped g c =
     let e = c.texts_gathered_in_turn_gather_as_one.ensures in
     let laws = gathering e.nothing e.turns e.writes e.fails e.leaves_nothing e.leaves in
-    so_stops_here _ _ laws c.cuts_change_no_packets.ensures.joins _ _ _ _ _ [] Memory _ _ _ _ c.loop.invariant.so refl
+    so_stops_here _ _ laws c.read_items_stay_and_runs_join.ensures.joins _ _ _ _ _ [] Memory _ _ _ _ c.loop.invariant.so refl

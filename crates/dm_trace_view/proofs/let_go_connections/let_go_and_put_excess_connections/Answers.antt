@@ -30,7 +30,7 @@ loop-alloc-preserved g c =
       done = inv.done ++ gone ∷ [];
       so = inv.so ++ told;
       text = c.in_ok-told.ensures ∙ ap (λ v. v ++ told) inv.text ∙ append_assoc _ inv.so told;
-      on = subst On (sym (rw c.octets_pending.ensures at c.saturating_add-so_far.ensures)) on;
+      on = subst On (sym (rw c.octets_held_that_came.ensures at c.saturating_add-so_far.ensures)) on;
     }
 
 pub returns : goal.returns

@@ -6,6 +6,6 @@ pub returns : goal.returns
 returns g c =
     λ m is a b closed_a closed_b list.
     run_promised m (record
-    { changes = c.each_connection_changes_as_allowed.ensures; keeps = c.each_step_keeps_shape.ensures }) is
+    { changes = c.connection_changes_and_orders_are_allowed.ensures; keeps = c.steps_keep_shape_in_few_commands.ensures }) is
     (world_of a b) list
     (c.closed_peers_make_a_sound_world.ensures m a b closed_a closed_b)

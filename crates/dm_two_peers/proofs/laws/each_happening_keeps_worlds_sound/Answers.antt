@@ -5,7 +5,7 @@ pub returns : goal.returns
 returns g c =
     λ m is w h good. happens_sound m
     (record {
-      changes = c.each_connection_changes_as_allowed.ensures;
+      changes = c.connection_changes_and_orders_are_allowed.ensures;
       keeps =
-          c.each_step_keeps_shape.ensures;
+          c.steps_keep_shape_in_few_commands.ensures;
     }) is w h good

@@ -5,5 +5,5 @@ pub returns : goal.returns
 returns g c =
     λ m r stands is match a b closed_a closed_b left right hs.
     run_settles m (record
-    { changes = c.each_connection_changes_as_allowed.ensures; keeps = c.each_step_keeps_shape.ensures }) is r stands
+    { changes = c.connection_changes_and_orders_are_allowed.ensures; keeps = c.steps_keep_shape_in_few_commands.ensures }) is r stands
     match a b (c.closed_peers_make_a_sound_world.ensures m a b closed_a closed_b) left right hs

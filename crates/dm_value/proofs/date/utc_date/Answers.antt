@@ -4,8 +4,8 @@ use Rattle.dm_value.proofs.date.utc_date.Goals as goal
 
 pub overflow_add-result : goal.overflow_add-result
 overflow_add-result c =
-    let year = c.year_and_day_of_year-year.ensures in
-    let month = c.month_and_day_of_month-month.ensures in
+    let year = c.year_and_days_into_year-year.ensures in
+    let month = c.month_and_days_into_month-month.ensures in
     let fits = day_fits c.args.seconds _ _ _ (search rules) c.seconds_since_1900-instant.ensures year month in
     omega arith
 

@@ -4,8 +4,8 @@ use Rattle.dm_wire.specs.Borrowed.{avp_of}
 use Rattle.dm_view.specs.Described.{member_described, group_described}
 use Rattle.dm_view.proofs.avp_description.+describing.Goals as goal
 
-pub write_members-loop-avp-preserved : goal.write_members-loop-avp-preserved
-write_members-loop-avp-preserved g t c all lists =
+pub write_spaced_avps_and_semicolons-loop-avp-preserved : goal.write_spaced_avps_and_semicolons-loop-avp-preserved
+write_spaced_avps_and_semicolons-loop-avp-preserved g t c all lists =
     let avps = c.args.dictionary.now.avps in
     let member = member_described (group_described c.args.depth avps) avps in
     let text = member (avp_of c.in-Some.avp) in

@@ -12,12 +12,14 @@ returns c =
     let avps = c.args.dictionary.now.avps in
     let f = told_at c.args.fault.now in
     let text = string_bytes c.args.text.now in
-    let code : string_bytes c.put_result_code_and_name.new.text ≡ text ++ (codes "  " ++ result_text f.fault.code)
-    = c.in_ok-put_result_code_and_name.ensures in
+    let code : string_bytes c.put_indented_result_code_and_name.new.text
+    ≡ text ++ (codes "  " ++ result_text f.fault.code)
+    = c.in_ok-put_indented_result_code_and_name.ensures in
     let groups : string_bytes c.put_path.new.text
-    ≡ string_bytes c.put_result_code_and_name.new.text ++ flat_map (step_text avps) f.path
+    ≡ string_bytes c.put_indented_result_code_and_name.new.text ++ flat_map (step_text avps) f.path
     = c.in_ok-put_path.ensures
-    ∙ ap (λ p. string_bytes c.put_result_code_and_name.new.text ++ flat_map (step_text avps) p) c.as_slice.ensures in
+    ∙ ap (λ p. string_bytes c.put_indented_result_code_and_name.new.text ++ flat_map (step_text avps) p)
+    c.as_slice.ensures in
     let failed : string_bytes c.put_any_failed_avp_and_reason.new.text ≡ string_bytes c.put_path.new.text
     ++ failed_view avps f.fault.code (failed_length f.fault.failed) (option_map without_data f.fault.failed)
     = c.in_ok-put_any_failed_avp_and_reason.ensures

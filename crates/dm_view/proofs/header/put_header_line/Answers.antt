@@ -15,7 +15,7 @@ returns c =
       c.in_ok-put_words_decimal_and_hexadecimal-2.ensures,
       c.in_ok-put_words_decimal_and_hexadecimal.ensures,
       c.in_ok-put_words_and_number-2.ensures,
-      c.in_ok-put_flag_words.ensures,
+      c.in_ok-put_spaced_flag_words.ensures,
       c.in_ok-put_words_and_number.ensures,
       named,
     ) (simp append_assoc)

@@ -21,7 +21,8 @@ returns c =
     let name : c.put_text_member.new.self ≡ c.put_number_member.new.self
     ++ key (codes "name") ∷ string (result_name f.fault.code) ∷ []
     = c.in_ok-put_text_member.ensures
-    ∙ ap (λ s. c.put_number_member.new.self ++ key (codes "name") ∷ string s ∷ []) c.result_code_name.ensures in
+    ∙ ap (λ s. c.put_number_member.new.self ++ key (codes "name") ∷ string s ∷ [])
+    c.result_name_or_placeholder.ensures in
     let named : c.put_key.new.self ≡ c.put_text_member.new.self ++ key (codes "path") ∷ [] = c.in_ok-put_key.ensures in
     let opened : c.begin_array.new.self ≡ c.put_key.new.self ++ begin_array ∷ [] = c.in_ok-begin_array.ensures in
     let path : c.put_path_and_end_array.new.json ≡ c.begin_array.new.self ++ items_tokens (path_items avps f.path)

@@ -14,9 +14,9 @@ returns g c =
     let bad : c.put_bad_verdict_if_checked.new.json ++ members_tokens members
     ≡ c.put_front_members.new.json ++ members_tokens (bad_members members)
     = c.in_ok-put_bad_verdict_if_checked.ensures members in
-    let before : c.put_json_header_before_refusal.new.json ++ members_tokens reason ≡
+    let before : c.put_header_member_if_bad_avp.new.json ++ members_tokens reason ≡
     c.put_bad_verdict_if_checked.new.json ++ members_tokens members
-    = c.in_ok-put_json_header_before_refusal.ensures reason in
-    let ended : c.put_refusal_and_end_object.new.json ≡ c.put_json_header_before_refusal.new.json ++ members_tokens reason
+    = c.in_ok-put_header_member_if_bad_avp.ensures reason in
+    let ended : c.put_refusal_and_end_object.new.json ≡ c.put_header_member_if_bad_avp.new.json ++ members_tokens reason
     = c.in_ok-put_refusal_and_end_object.ensures in
     rw (ended, before, bad, fronted, opened) (simp append_assoc)

@@ -11,9 +11,10 @@ returns g c =
     let members = shown_before c.args.dictionary.now c.args.octets.now c.args.fault reason in
     let opened : c.begin_object.new.self ≡ c.args.json.now ++ begin_object ∷ [] = c.in_ok-begin_object.ensures in
     let fronted = c.in_ok-put_front_members.ensures members in
-    let before : c.put_json_message_before_refusal.new.json ++ members_tokens reason ≡
+    let before : c.put_message_members_if_bad_avp.new.json ++ members_tokens reason ≡
     c.put_front_members.new.json ++ members_tokens members
-    = c.in_ok-put_json_message_before_refusal.ensures reason in
-    let ended : c.put_refusal_and_end_object.new.json ≡ c.put_json_message_before_refusal.new.json ++ members_tokens reason
+    = c.in_ok-put_message_members_if_bad_avp.ensures reason in
+    let ended : c.put_refusal_and_end_object.new.json
+    ≡ c.put_message_members_if_bad_avp.new.json ++ members_tokens reason
     = c.in_ok-put_refusal_and_end_object.ensures in
     rw (ended, before, fronted, opened) (simp append_assoc)

@@ -25,7 +25,7 @@ loop-line-init c =
 pub overflow_add-number : goal.overflow_add-number
 overflow_add-number c =
     let inv = c.loop-line.invariant in
-    let most = line_counts c.lines_of_parts_are_lines_of_whole.ensures.few c.args.input.now c.in-Some.line.now
+    let most = line_counts c.octet_count_bounds_line_count.ensures c.args.input.now c.in-Some.line.now
     c.loop-line.line-iterator c.next.new.self inv.before inv.lines_are c.in-Some.ensures.steps in
     omega (arith, most, inv.counted)
 

@@ -12,8 +12,8 @@ returns-in-Some-clause-refuses c = λ o bad. absurd (no_bad_in_list 0 _ c.args.o
 
 pub returns-in-None-clause-only : goal.returns-in-None-clause-only
 returns-in-None-clause-only c =
-    λ l sp. list_memory c.list_fault_or_no_memory.result c.args.octets.now l c.list_fault_or_no_memory.ensures sp
+    λ l sp. list_memory c.avp_list_fault_or_no_memory.result c.args.octets.now l c.avp_list_fault_or_no_memory.ensures sp
 
 pub returns-in-None-clause-refuses : goal.returns-in-None-clause-refuses
 returns-in-None-clause-refuses c =
-    λ o bad. ap Err (bad_told c.list_fault_or_no_memory.result c.args.octets.now o c.list_fault_or_no_memory.ensures bad)
+    λ o bad. ap Err (bad_told c.avp_list_fault_or_no_memory.result c.args.octets.now o c.avp_list_fault_or_no_memory.ensures bad)

@@ -36,7 +36,7 @@ invariant_of-result c =
     let made =
     subst (λ p. ArePeers (world_of p b)) left
     (subst (λ p. ArePeers (world_of (fresh_peer c.args.a) p)) right
-    (c.each_happening_keeps_peers_paired.ensures.fresh c.args.a c.args.b
+    (c.octet_peers_begin_and_stay_paired.ensures.fresh c.args.a c.args.b
     (no_fault_pairs c.args.a c.args.b c.requires) c.new.ensures.number
     c.new-2.ensures.number)) in
     let is = sym c.new-3.ensures.items in

@@ -15,6 +15,6 @@ pub items-preserved : goal.items-preserved
 items-preserved c =
     let found = rw c.in-Ok-Some.field-0-is at c.in-Ok-Some.ensures in
     let other = rw c.in-Ok-Some.field-0-is at c.in_default-holds.not-PacketRecord in
-    let done = rw c.in-Ok-Some.field-0-is at c.in_ok-move_past_front_item-in_default-holds.ensures in
-    none_more _ c.items.self c.move_past_front_item.new.self c.in-Ok-Some.found.size c.in-Ok-Some.found.holds c.items.invariant
+    let done = rw c.in-Ok-Some.field-0-is at c.in_ok-note_and_pass_front_item-in_default-holds.ensures in
+    none_more _ c.items.self c.note_and_pass_front_item.new.self c.in-Ok-Some.found.size c.in-Ok-Some.found.holds c.items.invariant
     found.within.1 found.item other done.passed

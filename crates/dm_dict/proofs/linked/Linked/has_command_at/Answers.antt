@@ -12,4 +12,4 @@ returns c = λ is.
     let at = rw c.as_slice-commands.ensures.value at (slice_get_read commands (length commands) c.args.place command refl
     c.if-place-commands.false c.index-commands-place.is) in
     sym (headed_place (defined c.args.self.now.tables) c.args.code c.args.request c.args.err c.args.place command
-    c.requires.dictionary.tables.sound at (sym c.is_command_of.ensures ∙ is))
+    c.requires.dictionary.tables.sound at (sym c.is_command_of_code.ensures ∙ is))

@@ -18,11 +18,11 @@ invariant_of-self c =
     let old = intakes_of c.args.self.now.intakes in
     let fed : ℕ → Intakes = λ n. changed c.args.conn.0 (fed_intake (take n c.args.piece.now)) old in
     record {
-      held = some_or_not c.feed_front.result (AllHeldAreThere ps) fed old (intakes_of c.feed_front.new.self)
-          c.feed_front.ensures.fed c.feed_front.ensures.unchanged
+      held = some_or_not c.feed_front_or_discard.result (AllHeldAreThere ps) fed old (intakes_of c.feed_front_or_discard.new.self)
+          c.feed_front_or_discard.ensures.fed c.feed_front_or_discard.ensures.unchanged
           (λ n. held_changed c.connections_stay_until_closed.ensures.changed ps c.args.conn.0
           (fed_intake (take n c.args.piece.now)) old c.args.self.now.held) c.args.self.now.held;
-      owned = owned_same ps (owners_of c.args.self.now.intakes) (owners_of c.feed_front.new.self)
-          c.feed_front.ensures.owners c.args.self.now.owned;
+      owned = owned_same ps (owners_of c.args.self.now.intakes) (owners_of c.feed_front_or_discard.new.self)
+          c.feed_front_or_discard.ensures.owners c.args.self.now.owned;
       met = c.args.self.now.met;
     }

@@ -23,7 +23,7 @@ returns-in-Ok-clause-told g c =
         peers = qs;
         moved = c.in-Ok.ensures.told;
         left = settled_as old qs answer.neighbour answer.actions.items _ _ _
-            c.settle_connections.ensures.settled (c.discard_behind_fault.ensures.broken at.0 at.1);
+            c.settle_connections.ensures.settled (c.discard_rest_of_stream.ensures.broken at.0 at.1);
       };
     }
 
@@ -33,7 +33,7 @@ invariant_of-self g c =
       held = c.settle_connections.ensures.held;
       owned = c.settle_connections.ensures.owned c.args.self.now.neighbours c.in-Ok.ensures.before
           (owned_same c.args.self.now.neighbours (owners_of c.args.self.now.intakes)
-          (owners_of c.discard_behind_fault.new.self) c.discard_behind_fault.ensures.owners c.args.self.now.owned);
+          (owners_of c.discard_rest_of_stream.new.self) c.discard_rest_of_stream.ensures.owners c.args.self.now.owned);
       met = c.tell_event.ensures.places;
     }
 
@@ -49,6 +49,6 @@ settle_connections-requires-clause-there g c =
     let at = c.requires.fault in
     let old = intakes_of c.args.self.now.intakes in
     let qs = c.tell_event.new.neighbours in
-    subst (AllHeldAreThere qs) (sym (c.discard_behind_fault.ensures.broken at.0 at.1))
+    subst (AllHeldAreThere qs) (sym (c.discard_rest_of_stream.ensures.broken at.0 at.1))
     (held_with c.connections_stay_until_closed.ensures.told qs c.args.conn.0 (broken_intake at.0) old
     (c.tell_event.ensures.held old c.args.self.now.held (arrived_there c.args.conn [] at.0 old at.1)))

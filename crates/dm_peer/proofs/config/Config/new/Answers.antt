@@ -7,7 +7,7 @@ use Rattle.dm_peer.proofs.config.Config.new.Goals as goal
 pub invariant_of-result-clause-other_host : goal.invariant_of-result-clause-other_host
 invariant_of-result-clause-other_host c =
     let none : config_fault c.host.result.now c.as_slice.result.now ≡ None =
-    sym c.fault_of_hosts.ensures ∙ c.in_default.is in
+    sym c.fault_of_peer_host.ensures ∙ c.in_default.is in
     let own : is_same_host c.host.result.now c.as_slice.result.now ≡ false =
     not_own c.host.result.now c.as_slice.result.now none in
     let here : is_same_host c.args.node.host c.as_slice.result.now ≡ false =

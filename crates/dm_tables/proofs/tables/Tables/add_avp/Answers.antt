@@ -15,7 +15,7 @@ returns-clause-tables c =
     let had = c.requires.tables.indexed in
     let sound = sound_parts (defined c.args.self.now) c.requires.tables.sound in
     let last : length c.as_slice-place.result.now ≡ length avps = ap length c.as_slice-place.ensures.value in
-    on_ok c.note_place_of_name-noted.result (λ noted. record {
+    on_ok c.set_place_of_name-noted.result (λ noted. record {
       indexed = record {
         vendors = had.vendors;
         names = rw (c.in_ok-push.ensures.items)
@@ -30,4 +30,4 @@ returns-clause-tables c =
       sound = rw (c.in_ok-push.ensures.items)
           (all_sound c.args.self.now.vendors.items.items (avps ++ c.args.avp ∷ []) c.args.self.now.commands.items
           sound.vendors (each_after-append is_sound_avp [] avps c.args.avp sound.avps c.requires.sound) sound.commands);
-    }) c.note_place_of_name-noted.ensures
+    }) c.set_place_of_name-noted.ensures

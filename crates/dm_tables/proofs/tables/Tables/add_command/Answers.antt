@@ -15,7 +15,7 @@ returns-clause-tables c =
     let had = c.requires.tables.indexed in
     let sound = sound_parts (defined c.args.self.now) c.requires.tables.sound in
     let last : length c.as_slice-place.result.now ≡ length commands = ap length c.as_slice-place.ensures.value in
-    on_ok c.note_place_of_name-noted.result (λ noted. record {
+    on_ok c.set_place_of_name-noted.result (λ noted. record {
       indexed = record {
         vendors = had.vendors;
         names = had.names;
@@ -31,4 +31,4 @@ returns-clause-tables c =
           (all_sound c.args.self.now.vendors.items.items c.args.self.now.avps.items (commands ++ c.args.command ∷ [])
           sound.vendors sound.avps
           (each_after-append is_sound_command [] commands c.args.command sound.commands c.requires.sound));
-    }) c.note_place_of_name-noted.ensures
+    }) c.set_place_of_name-noted.ensures

@@ -13,7 +13,7 @@ returns-clause-indexed c =
     let fresh : list_any (nat_eq c.args.vendor.number) c.args.self.now.numbers.keys ≡ false = ap
     (list_any (nat_eq c.args.vendor.number)) had.numbers ∙ any-map (nat_eq c.args.vendor.number)
     (λ v. v.number) vendors ∙ c.requires.number in
-    on_ok c.note_place_of_name-noted.result (λ noted. record {
+    on_ok c.set_place_of_name-noted.result (λ noted. record {
       names = rw (c.in_ok-push.ensures.items)
           (one_more (pointwise nat_eq) (λ v. v.name) _ _ _ _ vendors c.args.vendor had.names noted c.requires.name last
           c.as_slice.ensures);
@@ -21,4 +21,4 @@ returns-clause-indexed c =
           rw (c.in_ok-push.ensures.items)
           (key_pushed nat_eq (λ v. v.number) c.args.self.now.numbers.keys c.insert.new.self.keys vendors c.args.vendor
           c.args.vendor.number had.numbers c.in_ok-insert.ensures.keys refl fresh);
-    }) c.note_place_of_name-noted.ensures
+    }) c.set_place_of_name-noted.ensures

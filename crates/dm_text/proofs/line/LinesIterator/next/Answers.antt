@@ -8,7 +8,7 @@ returns-in-Some-clause-steps c =
     let s = c.self.inside.rest.now in
     rw (← c.self.view_is) (lines-fed s c.in-Some.end (sym c.first_line_feed.ensures ∙ c.in-Some.is)
     ∙ ap (λ v. v ∷ lines (take (length s - (c.in-Some.end + 1)) (drop (c.in-Some.end + 1) s)))
-    (sym c.without_carriage_return.ensures))
+    (sym c.without_trailing_carriage_return.ensures))
 
 pub returns-in-Some-clause-goes : goal.returns-in-Some-clause-goes
 returns-in-Some-clause-goes c =

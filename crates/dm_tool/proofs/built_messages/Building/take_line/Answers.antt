@@ -9,21 +9,21 @@ use Rattle.dm_tool.proofs.Contents.{content-one}
 use Rattle.dm_tool.proofs.Options.{ok-then}
 use Rattle.dm_tool.proofs.built_messages.Building.take_line.Goals as goal
 
-pub returns-in_ok-push_last_message_if_any-in-Some-clause-taken : goal.returns-in_ok-push_last_message_if_any-in-Some-clause-taken
-returns-in_ok-push_last_message_if_any-in-Some-clause-taken c = λ taken lines stands.
+pub returns-in_ok-push_last_message_and_clear_avps-in-Some-clause-taken : goal.returns-in_ok-push_last_message_and_clear_avps-in-Some-clause-taken
+returns-in_ok-push_last_message_and_clear_avps-in-Some-clause-taken c = λ taken lines stands.
     let skipped : is_skipped (trimmed c.args.line.now) ≡ false = ap is_skipped (sym c.trim_spaces-line.ensures)
     ∙ sym c.is_empty_or_comment.ensures ∙ c.if-is_empty_or_comment.false in
     let Line : List ℕ → Type 0 = λ l. TellsHeader c.in-Some.header l in
     let More : List (List ℕ) → Type 0 = λ v. BuiltSoFar (lines ++ v)
-    (Some c.in-Some.header) c.push_last_message_if_any.new.self.avps.items c.push_last_message_if_any.new.self.text.items
-    c.push_last_message_if_any.new.self.good in
-    let built = c.in_ok-push_last_message_if_any-in-Some.ensures.built in
+    (Some c.in-Some.header) c.push_last_message_and_clear_avps.new.self.avps.items c.push_last_message_and_clear_avps.new.self.text.items
+    c.push_last_message_and_clear_avps.new.self.good in
+    let built = c.in_ok-push_last_message_and_clear_avps-in-Some.ensures.built in
     subst More (sym (content-one c.args.line.now false skipped))
     (stands-header lines (trimmed c.args.line.now) c.in-Some.header c.args.self.now.last c.args.self.now.avps.items
-    c.push_last_message_if_any.new.self.avps.items c.args.self.now.text.items built.0
-    c.push_last_message_if_any.new.self.text.items
-    c.args.self.now.good built.1 c.push_last_message_if_any.new.self.good
-    (subst Line c.trim_spaces-line.ensures c.in-Some.ensures.told) c.in_ok-push_last_message_if_any-in-Some.ensures.emptied built.2 built.3
+    c.push_last_message_and_clear_avps.new.self.avps.items c.args.self.now.text.items built.0
+    c.push_last_message_and_clear_avps.new.self.text.items
+    c.args.self.now.good built.1 c.push_last_message_and_clear_avps.new.self.good
+    (subst Line c.trim_spaces-line.ensures c.in-Some.ensures.told) c.in_ok-push_last_message_and_clear_avps-in-Some.ensures.emptied built.2 built.3
     built.4 stands)
 
 pub returns-in-None-clause-taken : goal.returns-in-None-clause-taken

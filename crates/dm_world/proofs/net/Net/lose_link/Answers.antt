@@ -16,5 +16,5 @@ returns-clause-step c =
     (sym c.ignores_loss.ensures ∙ c.if-ignores_loss.false)
     (ap (λ ls. record { a = c.args.self.now.pair.a; b = c.args.self.now.pair.b; links = ls })
     (changed (lost_link length c.args.to_a c.args.to_b) c.in_ok-index.index c.args.self.now.links.items _
-    c.lose_all_but.new.self c.index_mut.ensures.value there.1 c.lose_all_but.ensures
+    c.lose_messages_beyond.new.self c.index_mut.ensures.value there.1 c.lose_messages_beyond.ensures
     ∙ ap (λ k. change_at k (lost_link length c.args.to_a c.args.to_b) (as_links c.args.self.now.links.items)) there.0))

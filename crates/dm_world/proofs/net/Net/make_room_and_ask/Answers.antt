@@ -12,8 +12,8 @@ returns-clause-sends c =
     let laws : SendLaws =
     record {
       machine = c.octet_peers_move_as_the_machine.ensures;
-      alone = c.ceas_open_and_what_is_given_up_is_closed.ensures.alone;
-      keeps = c.each_step_keeps_shape.ensures;
+      alone = c.given_up_is_closed_others_left_alone.ensures.alone;
+      keeps = c.steps_keep_shape_in_few_commands.ensures;
     } in
     let room : HasRoomToSend (as_side c.args.side) c.make_room_for_sends.new.links.items
     (peer_of (as_side c.args.side) c.args.self.now.pair).standing.core (named (as_event (event_told c.args.event))) =

@@ -19,7 +19,7 @@ pub perform_actions-requires-clause-room : goal.perform_actions-requires-clause-
 perform_actions-requires-clause-room c =
     let answer = rw c.in-Some.is at c.in_ok-ask_side.ensures.answer in
     silent_room (as_side c.args.side) (Start (conn c.len.result)) c.args.self.now c.ask_side.new.self c.in-Some.actions
-    c.push_reserved.new.self.items c.silent_events_take_no_memory.ensures c.ask_side.ensures.shaped refl answer
+    c.push_reserved.new.self.items c.starts_timeouts_drops_take_no_memory.ensures c.ask_side.ensures.shaped refl answer
 
 pub returns-in-None-clause-step : goal.returns-in-None-clause-step
 returns-in-None-clause-step c =
@@ -40,9 +40,9 @@ returns-in-Some-clause-step c =
     c.push_reserved.new.self.items _ c.new.result c.reserve.ensures.items c.push_reserved.ensures.items
     c.new.ensures c.perform_actions.ensures)
 
-pub returns-then-not-side_takes_event-clause-step : goal.returns-then-not-side_takes_event-clause-step
-returns-then-not-side_takes_event-clause-step c =
+pub returns-then-not-side_state_takes_event-clause-step : goal.returns-then-not-side_state_takes_event-clause-step
+returns-then-not-side_state_takes_event-clause-step c =
     let n : c.len.result ≡ length (as_links c.args.self.now.links.items) =
     c.len.ensures ∙ c.args.self.now.links.ok.0 ∙ sym (length_links c.args.self.now.links.items) in
     not_started (as_side c.args.side) c.len.result c.args.self.now c.args.self.now n
-    (c.side_takes_event.ensures.refused c.if-not-side_takes_event.true) refl
+    (c.side_state_takes_event.ensures.refused c.if-not-side_state_takes_event.true) refl

@@ -16,11 +16,11 @@ pub perform_actions-requires-clause-room : goal.perform_actions-requires-clause-
 perform_actions-requires-clause-room c =
     let answer = rw c.in-Ok-Some.field-0-is at c.in-Ok-Some.ensures.answer in
     silent_room (as_side c.args.side) Timeout c.args.self.now c.ask_side.new.self c.in-Ok-Some.actions
-    c.args.self.now.links.items c.silent_events_take_no_memory.ensures c.ask_side.ensures.shaped refl answer
+    c.args.self.now.links.items c.starts_timeouts_drops_take_no_memory.ensures c.ask_side.ensures.shaped refl answer
 
 pub unreachable-requires : goal.unreachable-requires
 unreachable-requires c =
-    timeout_wants_none (as_side c.args.side) c.args.self.now c.silent_events_take_no_memory.ensures c.ask_side.ensures.shaped
+    timeout_wants_none (as_side c.args.side) c.args.self.now c.starts_timeouts_drops_take_no_memory.ensures c.ask_side.ensures.shaped
     c.in-Err.ensures.want
 
 pub returns-in-Ok-Some : goal.returns-in-Ok-Some

@@ -11,7 +11,7 @@ invariant_of-self c =
     record {
       machine = c.octet_peers_move_as_the_machine.ensures;
       sound = c.each_happening_keeps_worlds_sound.ensures;
-      peers = c.each_happening_keeps_peers_paired.ensures.kept;
+      peers = c.octet_peers_begin_and_stay_paired.ensures.kept;
       cut = c.no_front_message_is_fully_delivered.ensures.step;
       sized = c.octet_peers_send_no_empty_message.ensures;
     } in

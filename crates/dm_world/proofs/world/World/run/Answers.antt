@@ -8,27 +8,27 @@ use Rattle.dm_world.proofs.world.World.run.Goals as goal
 pub returns-clause-ends : goal.returns-clause-ends
 returns-clause-ends c =
     (c.peers_of_sound_worlds_agree.ensures octet_peers c.apply_up_to_fault-ended.new.self
-    c.every_world_is_kept-2.ensures.sound).ends_are_held
+    c.every_world_is_sound_and_paired-2.ensures.sound).ends_are_held
 
 pub returns-clause-held : goal.returns-clause-held
 returns-clause-held c =
     (c.peers_of_sound_worlds_agree.ensures octet_peers c.apply_up_to_fault-ended.new.self
-    c.every_world_is_kept-2.ensures.sound).held_are_links
+    c.every_world_is_sound_and_paired-2.ensures.sound).held_are_links
 
 pub returns-clause-matched : goal.returns-clause-matched
 returns-clause-matched c =
     (c.peers_of_sound_worlds_agree.ensures octet_peers c.apply_up_to_fault-ended.new.self
-    c.every_world_is_kept-2.ensures.sound).open_is_matched
+    c.every_world_is_sound_and_paired-2.ensures.sound).open_is_matched
 
 pub returns-clause-joined : goal.returns-clause-joined
 returns-clause-joined c quiet =
-    c.quiet_octet_peers_are_closed_or_joined.ensures c.apply_up_to_fault-ended.new.self c.every_world_is_kept-2.ensures.sound
-    c.every_world_is_kept-2.ensures.peers quiet
+    c.quiet_octet_peers_are_closed_or_joined.ensures c.apply_up_to_fault-ended.new.self c.every_world_is_sound_and_paired-2.ensures.sound
+    c.every_world_is_sound_and_paired-2.ensures.peers quiet
 
 pub returns-clause-can_open : goal.returns-clause-can_open
 returns-clause-can_open c =
-    c.each_octet_world_can_restart_and_open.ensures c.apply_up_to_fault-ended.new.self c.every_world_is_kept-2.ensures.sound
-    c.every_world_is_kept-2.ensures.peers
+    c.each_octet_world_can_restart_and_open.ensures c.apply_up_to_fault-ended.new.self c.every_world_is_sound_and_paired-2.ensures.sound
+    c.every_world_is_sound_and_paired-2.ensures.peers
 
 pub returns-clause-past : goal.returns-clause-past
 returns-clause-past c a b past is =
@@ -57,18 +57,18 @@ returns-clause-upward c a b past is =
 
 pub returns-clause-settled : goal.returns-clause-settled
 returns-clause-settled c closed clean =
-    c.each_clean_octet_run_keeps_its_course.ensures c.args.self.now c.every_world_is_kept.ensures.sound
-    c.every_world_is_kept.ensures.peers closed
+    c.clean_octet_runs_settle_as_elected.ensures c.args.self.now c.every_world_is_sound_and_paired.ensures.sound
+    c.every_world_is_sound_and_paired.ensures.peers closed
     (map as_happening (take c.apply_up_to_fault-ended.result.0 c.args.list.now)) clean
 
 pub returns-clause-falls_quiet : goal.returns-clause-falls_quiet
 returns-clause-falls_quiet c closed clean =
-    c.each_clean_octet_run_falls_quiet.ensures c.args.self.now c.every_world_is_kept.ensures.sound
-    c.every_world_is_kept.ensures.peers closed
+    c.clean_octet_runs_fall_quiet.ensures c.args.self.now c.every_world_is_sound_and_paired.ensures.sound
+    c.every_world_is_sound_and_paired.ensures.peers closed
     (map as_happening (take c.apply_up_to_fault-ended.result.0 c.args.list.now)) clean
 
 pub returns-clause-can_fall_quiet : goal.returns-clause-can_fall_quiet
 returns-clause-can_fall_quiet c closed clean =
-    c.each_clean_octet_run_can_fall_quiet.ensures c.args.self.now c.every_world_is_kept.ensures.sound
-    c.every_world_is_kept.ensures.peers closed
+    c.clean_octet_runs_can_settle_as_elected.ensures c.args.self.now c.every_world_is_sound_and_paired.ensures.sound
+    c.every_world_is_sound_and_paired.ensures.peers closed
     (map as_happening (take c.apply_up_to_fault-ended.result.0 c.args.list.now)) clean

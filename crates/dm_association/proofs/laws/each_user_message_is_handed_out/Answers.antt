@@ -1,6 +1,0 @@
--- The law as it is proved for passages.
-use Rattle.dm_association.proofs.Reassembling.{each_handed_out}
-use Rattle.dm_association.proofs.laws.each_user_message_is_handed_out.Goals as goal
-
-pub returns : goal.returns
-returns c = each_handed_out

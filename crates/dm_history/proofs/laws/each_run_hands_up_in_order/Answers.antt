@@ -1,6 +1,0 @@
-use Rattle.dm_history.proofs.Upwards.{in_order}
-use Rattle.dm_history.proofs.laws.each_run_hands_up_in_order.Goals as goal
-
-pub returns : goal.returns
-returns c = in_order c.each_event_keeps_peers_settled.ensures.kept c.open_connections_carry_user_messages.ensures.up
-    c.open_connections_carry_user_messages.ensures.each

@@ -1,5 +1,0 @@
-use Rattle.dm_two_peers.proofs.TalkLemmas.{two_talks_proof}
-use Rattle.dm_two_peers.proofs.laws.sample_clean_runs_keep_their_course.Goals as goal
-
-pub returns : goal.returns
-returns c = two_talks_proof

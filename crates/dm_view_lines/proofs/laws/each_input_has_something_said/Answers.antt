@@ -1,5 +1,0 @@
-use Rattle.dm_view_lines.proofs.SomeSaid.{some_styled}
-use Rattle.dm_view_lines.proofs.laws.each_input_has_something_said.Goals as goal
-
-pub returns : goal.returns
-returns c = some_styled c.octets_spell_message_or_have_fault.ensures

@@ -1,0 +1,6 @@
+-- The law as it is proved for fields.
+use Rattle.dm_wire.proofs.Fitting.{fit_message_spelled}
+use Rattle.dm_wire.proofs.laws.fitting_messages_have_canonical_spelling.Goals as goal
+
+pub returns : goal.returns
+returns c = fit_message_spelled
