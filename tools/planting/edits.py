@@ -38,13 +38,33 @@ def first_of(lines, head, indent):
     return head
 
 
+def without_arguments(path):
+    """Returns the last name of a path, as of a type or a trait, without what stands between < and >."""
+    while re.search(r"<[^<>]*>", path):
+        path = re.sub(r"<[^<>]*>", "", path)
+    return path.strip().strip("&").split()[-1].split("::")[-1]
+
+
+def argument_of(path, parameters):
+    """Returns the name of the one type that a type or a trait is of, as Segment of Takes<Segment<'a>>; none where it is
+    of none, of more, or of the impl's own parameter."""
+    inner = re.search(r"<(.*)>", path)
+    words = [it.strip() for it in re.sub(r"<.*>", "", inner[1]).split(",")] if inner else []
+    types = [it.split("::")[-1] for it in words if re.fullmatch(r"[\w:]+", it)]
+    return types[0] if len(types) == 1 and types[0] not in parameters else ""
+
+
 def owner_in(head):
-    """Returns how a check names the methods of an impl with this head: by its type, and the trait behind it."""
-    head = head.partition("{")[0].partition(" where ")[0]
-    while re.search(r"<[^<>]*>", head):
-        head = re.sub(r"<[^<>]*>", "", head)
-    words = [it.strip("&").split("::")[-1] for it in head.split()]
-    return words[-1] + (words[0] if "for" in words else "")
+    """Returns how a check names the methods of an impl with this head: by its type, the trait behind it and what that
+    is of; where there is no trait, by the type and, behind a +, what this is of."""
+    head = head.partition("{")[0].partition(" where ")[0].strip()
+    own = re.match(r"<((?:[^<>]|<[^<>]*>)*)>", head)
+    parameters = re.findall(r"(?:^|, )(\w+)", own[1]) if own else []
+    trait, _, owner = (head[own.end() :] if own else head).rpartition(" for ")
+    if trait:
+        return without_arguments(owner) + without_arguments(trait) + argument_of(trait, parameters)
+    argument = argument_of(owner, parameters)
+    return without_arguments(owner) + (f"+{argument}" if argument else "")
 
 
 def functions_in(file, text):

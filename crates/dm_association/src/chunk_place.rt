@@ -7,6 +7,6 @@ pub(crate) enum ChunkPlace {
     Wanted(usize),
     /// Its TSN came before.
     Repeated,
-    /// Too far away, or more than may be held.
+    /// Too far away, or more than may be held, or it isn't known with which TSN the association begins.
     Astray,
 }

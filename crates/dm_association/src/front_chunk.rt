@@ -48,8 +48,8 @@ pub struct Init {
     pub initial_tsn: u32,
 }
 
-/// What the INIT or INIT ACK says that the octets behind a common header are; `None` where they are none. It takes no
-/// memory.
+/// What the INIT or INIT ACK says that the octets behind a common header are, and which of them it is; `None` where
+/// they are none. It takes no memory.
 ///
 /// ```text
 ///  0                   1                   2                   3

@@ -34,8 +34,9 @@ fn is_whole(run: ChunkRun) -> bool
     run.begun && run.ended
 }
 
-/// The run with the fragment before it, where its own first isn't the beginning; `None` where none there goes with it.
-fn run_with_fragment_before(
+/// The run with the fragment before it, where its own first isn't the beginning, else as it is; `None` where none there
+/// goes with it.
+fn run_with_needed_fragment_before(
     tsns: &VecDeque<TsnState>,
     at: usize,
     own: ChunkMarks,
@@ -65,8 +66,9 @@ fn run_with_fragment_before(
     }
 }
 
-/// The run with the fragment behind it, where its own last isn't the end; `None` where none there goes with it.
-fn run_with_fragment_behind(
+/// The run with the fragment behind it, where its own last isn't the end, else as it is; `None` where none there goes
+/// with it.
+fn run_with_needed_fragment_behind(
     tsns: &VecDeque<TsnState>,
     at: usize,
     own: ChunkMarks,
@@ -95,7 +97,7 @@ fn run_with_fragment_behind(
     }
 }
 
-/// The run with the fragments before and behind it that are wanted; `None` where one is missing or goes with another.
+/// The run with the fragments before and behind it that are needed; `None` where one is missing or goes with another.
 fn run_with_neighbours(
     tsns: &VecDeque<TsnState>,
     at: usize,
@@ -110,8 +112,8 @@ fn run_with_neighbours(
         → wider.first + run.last < run.first + wider.last) }
     ensures none { IfNone result (CompletesNone tsns.now.items at own) }
 {
-    match run_with_fragment_before(tsns, at, own, run) {
-        Some(wider) => run_with_fragment_behind(tsns, at, own, wider),
+    match run_with_needed_fragment_before(tsns, at, own, run) {
+        Some(wider) => run_with_needed_fragment_behind(tsns, at, own, wider),
         None => None,
     }
 }

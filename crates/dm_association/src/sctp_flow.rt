@@ -56,8 +56,8 @@ fn capped_octet_sum(passed: u64, octets: usize) -> u64
     passed.saturating_add(octets as u64)
 }
 
-/// Whether a chunk with this Payload Protocol Identifier may be of Diameter: it names that, or tells none.
-fn may_be_diameter(protocol: u32) -> bool
+/// Whether a chunk with this Payload Protocol Identifier may be of Diameter: it names that in clear, or tells none.
+fn is_diameter_or_unspecified(protocol: u32) -> bool
     ensures { result ≡ is_clear_text protocol }
 {
     protocol == DIAMETER || protocol == NO_IDENTIFIER
@@ -65,7 +65,7 @@ fn may_be_diameter(protocol: u32) -> bool
 
 /// Whether an association may begin with this chunk, without an INIT: it begins a user message, of whatever protocol,
 /// and is no longer than what may wait.
-fn begins_message_that_fits(chunk: DataChunk<'_>) -> bool
+fn association_may_begin_with(chunk: DataChunk<'_>) -> bool
     ensures { result ≡ may_begin_with (data_seen chunk.entry) }
 {
     chunk.beginning && chunk.user_data.len() <= MOST_WAITING
@@ -119,10 +119,10 @@ impl SctpFlow {
         octets_waiting_in(&self.window)
     }
 
-    /// The association ended, or another one takes its place. It never answers want of memory.
+    /// Leaves the association: it ended, or another one takes its place. It never answers want of memory.
     ///
     /// What waits is passed over.
-    pub fn end_association(&mut self)
+    pub fn leave_association(&mut self)
         ensures { self.new ≡ association_left self.old }
     {
         self.passed = capped_octet_sum(self.passed, octets_waiting_in(&self.window));
@@ -136,7 +136,7 @@ impl SctpFlow {
     pub fn begin_association(&mut self, initial_tsn: u32)
         ensures { self.new ≡ begun_at_tsn self.old initial_tsn }
     {
-        self.end_association();
+        self.leave_association();
         self.window = Some(TsnWindow::new(self.alloc, initial_tsn));
     }
 
@@ -153,7 +153,7 @@ impl SctpFlow {
         match self.place_of_chunk(chunk) {
             ChunkPlace::Wanted(at) => self.take_or_count_chunk_at(at, chunk),
             ChunkPlace::Repeated => Ok(None),
-            ChunkPlace::Astray => self.restart_or_end_association(chunk),
+            ChunkPlace::Astray => self.restart_or_leave_association(chunk),
         }
     }
 
@@ -195,7 +195,7 @@ impl SctpFlow {
         let Some(window) = &mut self.window else {
             unreachable!()
         };
-        if may_be_diameter(chunk.payload_protocol) {
+        if is_diameter_or_unspecified(chunk.payload_protocol) {
             return window.take_chunk_at(self.alloc, at, marks_of_chunk(chunk), chunk.user_data);
         }
         window.finish_tsn(at)?;
@@ -205,7 +205,7 @@ impl SctpFlow {
 
     /// Leaves the association, and begins one with the chunk where that begins a message; else it is passed over.
     /// It answers the user message that is whole with it, or None.
-    fn restart_or_end_association(
+    fn restart_or_leave_association(
         &mut self,
         chunk: DataChunk<'_>,
     ) -> Result<Option<Vec<u8>>, AllocError>
@@ -216,8 +216,8 @@ impl SctpFlow {
         ensures left { OnErr result ((may_begin_with (data_seen chunk.entry) ≡ true)
             × (self.new ≡ begun_at_tsn self.old (data_seen chunk.entry).tsn)) }
     {
-        if !begins_message_that_fits(chunk) {
-            self.end_association();
+        if !association_may_begin_with(chunk) {
+            self.leave_association();
             self.count_unread_chunk(chunk);
             return Ok(None);
         }

@@ -89,7 +89,7 @@ impl<'a> Takes<SctpPacket<'a>> for Association {
         }
     }
 
-    fn exchange_request_begins_in(sent: SctpPacket<'a>) -> bool {
+    fn cer_begins_in(sent: SctpPacket<'a>) -> bool {
         any_chunk_begins_exchange_request(sent.chunks)
     }
 

@@ -3,7 +3,7 @@ ghost use Rattle.std.specs.Prelude.{◌↔◌, IsTrue};
 ghost use Rattle.dm_associations.specs.Exchanges.{ChunkBeginsExchange, ChunksBeginExchange};
 ghost use Rattle.dm_flows.specs.Sctps.{data_seen};
 
-use dm_flows::sctp_laws::data_chunks_make_one_list;
+use dm_flows::sctp_laws::packets_have_one_data_list;
 use dm_flows::{DataChunk, DataChunks, begins_with_exchange_request};
 
 /// The Payload Protocol Identifier of Diameter (RFC 6733, 11.5).
@@ -26,7 +26,7 @@ fn chunk_begins_exchange_request(chunk: DataChunk<'_>) -> bool
 pub(crate) fn any_chunk_begins_exchange_request(octets: &[u8]) -> bool
     ensures { IsTrue result ↔ ChunksBeginExchange octets.now }
 {
-    data_chunks_make_one_list();
+    packets_have_one_data_list();
     'chunks: for chunk in DataChunks::new(octets) {
         if chunk_begins_exchange_request(chunk) {
             return true;

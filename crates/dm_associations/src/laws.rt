@@ -18,7 +18,7 @@ pub fn ended_associations_ignore_all_but_init()
 /// As many octets of user data as a direction took are in messages that were handed out or can be, wait for others of
 /// their message, came before, were passed over, or are of Diameter over DTLS (both counted up to 2^64 - 1): in
 /// whatever order chunks come, associations begin and end, and messages are handed out.
-pub fn octets_of_ways_add_up()
+pub fn octets_of_each_way_add_up()
     ensures { EachWayOctetIsAccounted }
 {
     each_octet_of_a_flow();

@@ -12,9 +12,9 @@ use dm_association::Init;
 use dm_flows::SctpPacket;
 use std::alloc::AllocError;
 
-/// Whether a packet with this Verification Tag is of the association: that hasn't ended, and `known`, the tag of the
-/// direction, is this one or None (RFC 9260, 8.4 and 8.5).
-fn is_tag_of_association(known: Option<u32>, ended: bool, tag: u32) -> bool
+/// Whether a packet with this Verification Tag may be of the association: that hasn't ended, and `known`, the tag of
+/// the direction, is this one or None (RFC 9260, 8.4 and 8.5).
+fn may_be_tag_of_association(known: Option<u32>, ended: bool, tag: u32) -> bool
     ensures { result ≡ is_own_packet tag known ended }
 {
     match known {
@@ -36,7 +36,7 @@ fn is_repeated_init(other: &SctpWay, ended: bool, init: Init) -> bool
 
 /// Begins the sender's direction at the Initial TSN of an INIT or an INIT ACK; the Initiate Tag is the tag of the other
 /// direction from now on.
-fn apply_init(own: &mut SctpWay, other: &mut SctpWay, init: Init)
+fn begin_own_and_tag_other(own: &mut SctpWay, other: &mut SctpWay, init: Init)
     ensures own { own.new ≡ record own.old { flow = begun_at_tsn own.old.flow init.initial_tsn } }
     ensures other { other.new ≡ record other.old { tag = Some init.initiate_tag } }
 {
@@ -54,29 +54,29 @@ fn take_init(own: &mut SctpWay, other: &mut SctpWay, ended: &mut bool, init: Ini
         return;
     }
     own.set_verification_tag(None);
-    other.end_association();
-    apply_init(own, other, init);
+    other.leave_association();
+    begin_own_and_tag_other(own, other, init);
     *ended = false;
 }
 
-/// Takes an INIT ACK, in a packet with this tag; one that isn't of the association changes nothing, and the first that
-/// comes counts (RFC 9260, 5.1 and 5.2.3).
-fn take_init_ack(own: &mut SctpWay, other: &mut SctpWay, ended: bool, init: Init, tag: u32)
+/// Takes an INIT ACK, in a packet with this tag: the first that comes counts, and a later one begins nothing. One that
+/// isn't of the association changes nothing (RFC 9260, 5.1 and 5.2.3).
+fn take_init_ack_if_first(own: &mut SctpWay, other: &mut SctpWay, ended: bool, init: Init, tag: u32)
     ensures { record { own = own.new; other = other.new; ended = ended }
         ≡ after_answer init tag (record { own = own.old; other = other.old; ended = ended }) }
 {
-    if !is_tag_of_association(own.verification_tag(), ended, tag) {
+    if !may_be_tag_of_association(own.verification_tag(), ended, tag) {
         return;
     }
     own.set_verification_tag(Some(tag));
     if other.verification_tag().is_none() {
-        apply_init(own, other, init);
+        begin_own_and_tag_other(own, other, init);
     }
 }
 
 /// The Verification Tag of a packet with an ABORT or a SHUTDOWN COMPLETE, where it is of the association: with the T
 /// bit, `reflected`, that of the other direction; None where it isn't known (RFC 9260, 8.5.1).
-fn expected_tag_of_association_end(own: &SctpWay, other: &SctpWay, reflected: bool) -> Option<u32>
+fn expected_tag_of_ending_packet(own: &SctpWay, other: &SctpWay, reflected: bool) -> Option<u32>
     ensures { result ≡ ending_tag reflected own.now other.now }
 {
     if reflected {
@@ -87,7 +87,7 @@ fn expected_tag_of_association_end(own: &SctpWay, other: &SctpWay, reflected: bo
 }
 
 /// Takes an ABORT or a SHUTDOWN COMPLETE, in a packet with this tag: both directions end, if it is of the association.
-fn take_association_end(
+fn take_abort_or_shutdown_complete(
     own: &mut SctpWay,
     other: &mut SctpWay,
     ended: &mut bool,
@@ -97,15 +97,15 @@ fn take_association_end(
     ensures { record { own = own.new; other = other.new; ended = ended.new }
         ≡ after_ending reflected tag (record { own = own.old; other = other.old; ended = ended.old }) }
 {
-    if !is_tag_of_association(
-        expected_tag_of_association_end(own, other, reflected),
+    if !may_be_tag_of_association(
+        expected_tag_of_ending_packet(own, other, reflected),
         *ended,
         tag,
     ) {
         return;
     }
-    own.end_association();
-    other.end_association();
+    own.leave_association();
+    other.leave_association();
     *ended = true;
 }
 
@@ -118,7 +118,7 @@ fn take_data_and_tag(
     ensures taken { OnOk result (TakesCarried own.old ended (sctp_seen packet.entry) own.new) }
     ensures left { OnErr result (LeavesCarried own.old ended (sctp_seen packet.entry) own.new) }
 {
-    if !is_tag_of_association(own.verification_tag(), ended, packet.verification_tag) {
+    if !may_be_tag_of_association(own.verification_tag(), ended, packet.verification_tag) {
         return Ok(());
     }
     own.set_verification_tag(Some(packet.verification_tag));
@@ -140,8 +140,10 @@ pub(crate) fn take_packet_in_direction(
     let tag = packet.verification_tag;
     match read_front_chunk(packet.chunks) {
         Front::Begins(init) => take_init(own, other, ended, init, tag),
-        Front::Answers(init) => take_init_ack(own, other, *ended, init, tag),
-        Front::Ends(reflected) => take_association_end(own, other, ended, reflected, tag),
+        Front::Answers(init) => take_init_ack_if_first(own, other, *ended, init, tag),
+        Front::Ends(reflected) => take_abort_or_shutdown_complete(
+            own, other, ended, reflected, tag,
+        ),
         Front::Carries => return take_data_and_tag(own, *ended, packet),
     }
     Ok(())

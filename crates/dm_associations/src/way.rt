@@ -7,7 +7,7 @@ ghost use Rattle.dm_flows.specs.Sctps.{data_seen};
 
 use crate::message::WholeMessage;
 use dm_association::SctpFlow;
-use dm_flows::sctp_laws::data_chunks_make_one_list;
+use dm_flows::sctp_laws::packets_have_one_data_list;
 use dm_flows::{DataChunk, DataChunks};
 use std::alloc::{AllocError, Global};
 use std::collections::VecDeque;
@@ -95,11 +95,11 @@ impl SctpWay {
         self.flow.begin_association(initial_tsn);
     }
 
-    /// Ends the association in this direction; what waits is passed over.
-    pub(crate) fn end_association(&mut self)
+    /// Leaves the association in this direction; what waits is passed over.
+    pub(crate) fn leave_association(&mut self)
         ensures { self.new ≡ record self.old { flow = association_left self.old.flow } }
     {
-        self.flow.end_association();
+        self.flow.leave_association();
     }
 
     /// Takes a DATA chunk. Where memory is wanted it wasn't taken.
@@ -124,7 +124,7 @@ impl SctpWay {
         ensures taken { OnOk result (WayTakes self.old octets.now self.new) }
         ensures left { OnErr result (WayLeaves self.old octets.now self.new) }
     {
-        data_chunks_make_one_list();
+        packets_have_one_data_list();
         'chunks: for chunk in DataChunks::new(octets) {
             self.take_chunk(chunk)?;
         }

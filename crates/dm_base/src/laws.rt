@@ -46,7 +46,7 @@ pub fn built_messages_have_spellings()
 
 /// What the capabilities exchanges of a node tell, as `sender` reads them, is what the node says of itself, extras too;
 /// and its watchdogs tell the number of its state (5.3 and 8.16). It stands for users.
-pub fn exchanges_and_watchdogs_tell_their_sender()
+pub fn exchanges_tell_sender_watchdogs_state_id()
     ensures cer { CerTellsNode }
     ensures cea { CeaTellsNode }
     ensures dwr { DwrTellsState }

@@ -53,7 +53,7 @@ pub(crate) fn read_interface(
         link: u16_at(order, block, 8),
         limit: u32_at(order, block, 12),
         resolution: resolution_from_options(order, options),
-        offset: offset_from_options(order, options),
+        offset: time_offset_from_options(order, options),
     })
 }
 
@@ -68,7 +68,7 @@ fn resolution_from_options(order: Order, options: &[u8]) -> Resolution
 }
 
 /// The offset in seconds that the options say: 0 where they don't.
-fn offset_from_options(order: Order, options: &[u8]) -> u64
+fn time_offset_from_options(order: Order, options: &[u8]) -> u64
     ensures { IsOffset order options.now result }
 {
     match option_value(order, options, TIME_OFFSET, 8) {

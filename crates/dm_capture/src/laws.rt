@@ -3,7 +3,7 @@ ghost use Rattle.dm_capture.specs.Laws.{LaterChangesNothing, EachPcapIsRead, Eac
 ghost use Rattle.dm_capture.specs.Laws.{ItemOrPart, PartOrFault, OneFrontFault, RunsJoin, OneItem, OneReading};
 
 /// At most one of these stands at the front of what is left: one header, record or block, a part of one, one fault.
-pub fn item_part_or_fault_excludes_others()
+pub fn fronts_hold_one_item_part_or_fault()
     ensures item { OneItem }
     ensures part { ItemOrPart }
     ensures fault { ItemOrFault }

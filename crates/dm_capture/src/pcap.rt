@@ -74,7 +74,8 @@ fn order_and_resolution_of_magic(octets: &[u8]) -> Option<(Order, Resolution)>
     }
 }
 
-/// The header of a pcap file whose first octets gave its order and resolution; `None` where it isn't whole yet.
+/// The header of a pcap file whose first octets gave its order and resolution; `None` where it isn't whole yet, a fault
+/// where its major version isn't 2.
 fn pcap_header_at_front(
     order: Order,
     resolution: Resolution,

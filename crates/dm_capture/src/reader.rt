@@ -192,8 +192,8 @@ impl CaptureReader {
     }
 
     /// What is wrong where the file ends here, once `next` answered `None`: nothing, a record that isn't whole, or no
-    /// file at all.
-    pub fn check_is_whole_file(&self) -> Result<(), CaptureFault>
+    /// file at all. Before that a record that wasn't handed out counts as one that isn't whole.
+    pub fn check_whole_file_was_read(&self) -> Result<(), CaptureFault>
         ensures whole { OnOk result ((self.now.octets ≡ []) × (self.now.layout ≢ Start)) }
         ensures fault { IfErr result (λ fault. (fault.offset ≡ self.now.offset) × EndsWith self.now fault.kind) }
     {

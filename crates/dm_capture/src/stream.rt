@@ -52,7 +52,7 @@ fn next_packet_without_kept_fault<R: BufRead>(
             Ok(None) => (),
             Err(fault) => return Err(StreamFault::Capture(fault)),
         }
-        if feed_from_reader(reader, capture)? {
+        if is_reader_ended_else_feed(reader, capture)? {
             return none_or_fault_at_end(capture);
         }
     }
@@ -63,14 +63,14 @@ fn next_packet_without_kept_fault<R: BufRead>(
 fn none_or_fault_at_end(capture: &CaptureReader) -> Result<Option<Packet>, StreamFault>
     ensures { EndsAs capture.now result }
 {
-    match capture.check_is_whole_file() {
+    match capture.check_whole_file_was_read() {
         Ok(()) => Ok(None),
         Err(fault) => Err(StreamFault::Capture(fault)),
     }
 }
 
-/// Feeds the capture what the reader has at hand. True where the reader has nothing left.
-fn feed_from_reader<R: BufRead>(
+/// Whether the reader has nothing left; else it feeds the capture what the reader has at hand.
+fn is_reader_ended_else_feed<R: BufRead>(
     reader: &mut R,
     capture: &mut CaptureReader,
 ) -> Result<bool, StreamFault>
@@ -81,7 +81,7 @@ fn feed_from_reader<R: BufRead>(
 {
     let octets = match reader.fill_buf() {
         Ok(octets) => octets,
-        Err(error) => return fault_unless_interrupted(capture, error),
+        Err(error) => return false_if_interrupted_else_fault(capture, error),
     };
     let size = octets.len();
     if capture.feed(octets).is_err() {
@@ -92,7 +92,10 @@ fn feed_from_reader<R: BufRead>(
 }
 
 /// What is answered where a read fails: false where it was interrupted, so that it is made again, else the fault.
-fn fault_unless_interrupted(capture: &CaptureReader, error: Error) -> Result<bool, StreamFault>
+fn false_if_interrupted_else_fault(
+    capture: &CaptureReader,
+    error: Error,
+) -> Result<bool, StreamFault>
     ensures again { IfOk result (λ done. done ≡ false) }
     ensures none { IfErr result (IsNoneRead capture.now) }
 {

@@ -3,7 +3,7 @@ ghost use Rattle.std.specs.Prelude.{◌≡◌, ◌↔◌, IsTrue};
 ghost use Rattle.dm_flows.specs.Tcps.{segment_seen};
 ghost use Rattle.dm_connections.specs.Choices.{has_port, WantsBetween, Wants};
 
-use crate::two_way::Takes;
+use crate::table_traits::Takes;
 use dm_flows::{Connection, Endpoint, Segment};
 
 /// The port of Diameter over TCP and SCTP (RFC 6733, 2.1 and 11.4).
@@ -34,7 +34,7 @@ pub(crate) fn is_connection_wanted<S: Copy, C: Takes<S>>(choice: Choice<'_>, sen
     match choice {
         Choice::Ports(ports) => has_one_of_ports(ports, ends.first)
             || has_one_of_ports(ports, ends.second),
-        Choice::Any => C::exchange_request_begins_in(sent),
+        Choice::Any => C::cer_begins_in(sent),
     }
 }
 

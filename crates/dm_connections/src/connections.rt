@@ -11,7 +11,7 @@ use crate::choice::{Choice, is_connection_wanted};
 use crate::ends::Ends;
 use crate::limits::Limits;
 use crate::octet_sum::{next_message_keeping_sum, sum_with_part_replaced, take_sent_keeping_sum};
-use crate::two_way::{Takes, TwoWay};
+use crate::table_traits::{Takes, TwoWay};
 use dm_flows::{Connection, Endpoint};
 use lru::LruCache;
 use std::alloc::{AllocError, Global};
@@ -179,9 +179,13 @@ impl<C: TwoWay> Connections<C> {
         }
     }
 
-    /// The connection of these ends takes what one of them sent, as [`Takes::take_sent`] does; where none is held
-    /// nothing changes. Where memory is wanted the connection was heard, and is left as that call leaves it.
-    pub fn take_if_held<S: Copy>(&mut self, ends: Ends, sent: S) -> Result<(), AllocError>
+    /// The connection of these ends takes what one of them sent, as [`Takes::take_sent`] does; where none is held in
+    /// this order nothing changes. Where memory is wanted the connection was heard, and is left as that call leaves it.
+    pub fn take_if_held_in_this_order<S: Copy>(
+        &mut self,
+        ends: Ends,
+        sent: S,
+    ) -> Result<(), AllocError>
     where
         C: Takes<S>,
         ensures heard { OnOk result (holds_ends self.old.held ends ≡ true
@@ -298,7 +302,7 @@ impl<C: TwoWay> Connections<C> {
         ensures max { self.new.max ≡ self.old.max }
     {
         match self.find_or_hold_wanted(choice, sent) {
-            Ok(Some(ends)) => match self.take_if_held(ends, sent) {
+            Ok(Some(ends)) => match self.take_if_held_in_this_order(ends, sent) {
                 Ok(()) => Ok(Some(ends)),
                 Err(error) => Err(error),
             },

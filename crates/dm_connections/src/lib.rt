@@ -7,11 +7,11 @@ mod connections;
 mod ends;
 mod limits;
 mod octet_sum;
+mod table_traits;
 mod tcp;
-mod two_way;
 
 pub use choice::{Choice, DIAMETER_PORT};
 pub use connections::{Connections, LetGo};
 pub use ends::Ends;
 pub use limits::{Limits, MAX_CONNECTIONS, MAX_HELD};
-pub use two_way::{Takes, TwoWay};
+pub use table_traits::{Takes, TwoWay};

@@ -1,7 +1,7 @@
 //! The sum of the octets that all connections hold, kept as one of them takes or hands out octets.
 ghost use Rattle.std.specs.Prelude.{◌≡◌, ◌+◌, ◌<◌, ◌≤◌, ◌^◌, OnOk, OnErr, IfOk, IfSome, IfNone};
 
-use crate::two_way::{Takes, TwoWay};
+use crate::table_traits::{Takes, TwoWay};
 use std::alloc::AllocError;
 
 /// The sum with one of its parts replaced: `before` by `after`.

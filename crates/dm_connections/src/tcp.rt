@@ -2,7 +2,7 @@
 ghost use Rattle.std.proofs.Common.{rules};
 
 use crate::ends::Ends;
-use crate::two_way::{Takes, TwoWay};
+use crate::table_traits::{Takes, TwoWay};
 use dm_flows::{Connection, Flow, Segment, begins_with_exchange_request};
 use std::alloc::{AllocError, Global};
 
@@ -85,7 +85,7 @@ impl<'a> Takes<Segment<'a>> for Connection {
         }
     }
 
-    fn exchange_request_begins_in(sent: Segment<'a>) -> bool {
+    fn cer_begins_in(sent: Segment<'a>) -> bool {
         begins_with_exchange_request(sent.payload)
     }
 

@@ -215,11 +215,11 @@ impl Linked {
         requires { IsLinked self.now }
         ensures { option_copied result ≡ find (is_coded code vendor) self.now.tables.avps.items }
     {
-        self.optional_avp_def_at(self.avp_place_by_code(code, vendor))
+        self.avp_def_at_optional_place(self.avp_place_by_code(code, vendor))
     }
 
     /// The AVP at the place, where there is one.
-    fn optional_avp_def_at(&self, place: Option<usize>) -> Option<&AvpDef>
+    fn avp_def_at_optional_place(&self, place: Option<usize>) -> Option<&AvpDef>
         ensures { option_copied result ≡ option_and_then (slice_get self.now.tables.avps.items) place }
     {
         match place {

@@ -61,7 +61,7 @@ impl Debug for LinksShown<'_> {
 
 /// The entries that have a link, by its lowest bits, as they are shown: 255 where there is none, 254 where there are
 /// several.
-fn link_slots_for_debug(rows: &[Row]) -> [u8; 128] {
+fn shown_entries_by_link_bits(rows: &[Row]) -> [u8; 128] {
     let mut seats = [255; 128];
     for (at, row) in rows.iter().enumerate() {
         if row.linked {
@@ -83,7 +83,7 @@ impl Debug for Links {
             .field("items", &LinksShown(self.items.as_slice()))
             .field("any", &self.any)
             .field("places", &self.places)
-            .field("seats", &link_slots_for_debug(self.items.as_slice()))
+            .field("seats", &shown_entries_by_link_bits(self.items.as_slice()))
             .finish()
     }
 }
@@ -218,7 +218,7 @@ impl Links {
 
     /// The place of the first entry that has the link, else of the first that has none; found without a seat.
     #[inline(never)]
-    fn entry_place_without_seat(&self, definition: usize) -> Option<usize>
+    fn linked_or_any_entry_place(&self, definition: usize) -> Option<usize>
         ensures { result ≡ option_or (position_from (has_link (Some definition)) 0 self.now.rows)
             (position_from (has_link None) 0 self.now.rows) }
     {
@@ -269,7 +269,7 @@ impl Links {
             return self.any;
         }
         if seat == CROWDED {
-            return self.entry_place_without_seat(definition);
+            return self.linked_or_any_entry_place(definition);
         }
         if self.items[usize::from(seat)].names_code_and_vendor(code, vendor) {
             Some(usize::from(seat))

@@ -17,7 +17,7 @@ use crate::entries::counters_show_no_fault;
 use crate::judge::GROUPS;
 use crate::judged::Judged;
 use crate::linked::{Linked, LinkedRule};
-use crate::passing::{pass_avp_with_row, pass_looked_up_avp, pass_undefined_optional_avp};
+use crate::passing::{pass_avp_with_row, pass_looked_up_avp, pass_unmarked_nonmandatory_avp};
 use crate::rules::allowed_row_for_avp_by_seat;
 use dm_wire::AvpsRef;
 use std::alloc::Global;
@@ -25,7 +25,7 @@ use std::alloc::Global;
 /// The AVPs from the first on that isn't passed as one without a definition that isn't mandatory; those before it are
 /// counted.
 #[inline(always)]
-fn pass_leading_undefined_optional_avps<'a>(
+fn pass_leading_unmarked_nonmandatory_avps<'a>(
     dictionary: &Linked,
     rule: LinkedRule<'_>,
     list: AvpsRef<'a>,
@@ -40,7 +40,7 @@ fn pass_leading_undefined_optional_avps<'a>(
 {
     let mut behind = list;
     while let Some((avp, rest)) = behind.split_first() {
-        if !pass_undefined_optional_avp(dictionary, rule, avp, counts) {
+        if !pass_unmarked_nonmandatory_avp(dictionary, rule, avp, counts) {
             return behind;
         }
         behind = rest;
@@ -97,8 +97,8 @@ fn pass_avps_without_row<'a>(
     let Some((avp, rest)) = list.split_first() else {
         return None;
     };
-    if pass_undefined_optional_avp(dictionary, rule, avp, counts) {
-        return Some(pass_leading_undefined_optional_avps(dictionary, rule, rest, counts));
+    if pass_unmarked_nonmandatory_avp(dictionary, rule, avp, counts) {
+        return Some(pass_leading_unmarked_nonmandatory_avps(dictionary, rule, rest, counts));
     }
     if allowed_row_for_avp_by_seat(dictionary, rule, avp).is_none()
         && pass_looked_up_avp(dictionary, rule, avp, GROUPS, counts)

@@ -17,7 +17,7 @@ use dm_wire::AvpRef;
 use indexmap::IndexMap;
 
 /// Counts one more of a code and vendor, and tells how many there are with it.
-fn count_nth_of_code_and_vendor(
+fn increment_code_and_vendor_count(
     numbers: &mut IndexMap<(u32, Option<u32>), usize>,
     code: u32,
     vendor: Option<u32>,
@@ -76,7 +76,7 @@ pub(crate) fn count_group_occurrence<'a>(
         return Ok(0);
     };
     if is_group_at(dictionary, place) {
-        return count_nth_of_code_and_vendor(numbers, avp.code, avp.vendor);
+        return increment_code_and_vendor_count(numbers, avp.code, avp.vendor);
     }
     Ok(0)
 }

@@ -148,7 +148,7 @@ pub(crate) fn pass_avp_with_row(
 /// True only for an AVP that has no definition, as the marks of the codes tell at once, and wants none: it isn't
 /// mandatory. Then it is counted, else nothing is.
 #[inline(always)]
-pub(crate) fn pass_undefined_optional_avp(
+pub(crate) fn pass_unmarked_nonmandatory_avp(
     dictionary: &Linked,
     rule: LinkedRule<'_>,
     avp: AvpRef<'_>,
@@ -319,7 +319,7 @@ fn pass_spelled_avp_without_row<'a>(
     let Some((avp, size)) = first_avp(octets) else {
         return None;
     };
-    if pass_undefined_optional_avp(dictionary, rule, avp, counts) {
+    if pass_unmarked_nonmandatory_avp(dictionary, rule, avp, counts) {
         return Some(&octets[size..]);
     }
     if pass_looked_up_avp(dictionary, rule, avp, groups_allowed, counts) {

@@ -147,7 +147,7 @@ fn judge_sized_window<'a, const SIZE: usize>(
 
 /// The first fault of the last entries, those from `from` on, where they are no more than so many.
 #[inline(always)]
-fn judge_last_sized_window<'a, const SIZE: usize>(
+fn judge_last_entries_in_window<'a, const SIZE: usize>(
     tables: &Tables,
     rule: LinkedRule<'_>,
     from: usize,
@@ -187,11 +187,11 @@ fn judge_last_entries<'a>(
 {
     let left = rule.entries.as_slice().len() - from;
     if left > SHORT_WINDOW {
-        judge_last_sized_window::<MIDDLE_WINDOW>(tables, rule, from, list)
+        judge_last_entries_in_window::<MIDDLE_WINDOW>(tables, rule, from, list)
     } else if left > MANY_ENTRIES {
-        judge_last_sized_window::<SHORT_WINDOW>(tables, rule, from, list)
+        judge_last_entries_in_window::<SHORT_WINDOW>(tables, rule, from, list)
     } else {
-        judge_last_sized_window::<MANY_ENTRIES>(tables, rule, from, list)
+        judge_last_entries_in_window::<MANY_ENTRIES>(tables, rule, from, list)
     }
 }
 

@@ -28,8 +28,8 @@ fn default_qualifier_min(form: Form) -> u32
     }
 }
 
-/// The least number of a qualifier: what this word writes, else that of the form; or the fault of a number that is too
-/// great.
+/// The least number of a qualifier: what this word writes, whatever the form, be it 0 where the AVP is required; else
+/// that of the form; or the fault of a number that is too great.
 fn qualifier_min(form: Form, word: Option<Token<'_>>) -> Result<u32, DictFault>
     ensures value { IfOk result (λ n. n ≡ low_or form (view_option word.entry)) }
     ensures good { IfOk result (λ _. option_faults u32.MAX (view_option word.entry) ≡ []) }
@@ -59,7 +59,8 @@ fn qualifier_max(min: u32, word: Option<Token<'_>>) -> Result<Option<u32>, DictF
     }
 }
 
-/// The least and the greatest number of an entry, or the first fault of its qualifier. No greatest number is no limit.
+/// The least and the greatest number of an entry, or the first fault of its qualifier: a number that is too great, or a
+/// greatest below the least. No greatest number is no limit. What is written isn't compared with the form.
 pub fn entry_bounds(item: &EntryItem<'_>) -> Result<(u32, Option<u32>), DictFault>
     ensures min { IfOk result (λ b. b.0 ≡ min_of (view_entry item.now).form (view_entry item.now).qualifier) }
     ensures max { IfOk result (λ b. b.1 ≡ max_of (view_entry item.now).qualifier) }

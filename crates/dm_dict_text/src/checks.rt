@@ -157,7 +157,7 @@ pub fn check_command_name(tables: &Tables, word: Token<'_>) -> Result<(), DictFa
 
 /// Checks the code of a command, which no other with the same REQ and ERR may have, and its Application-ID. Gives both,
 /// or the first fault; the Application-ID is 0 where none is written.
-pub fn check_command_code_and_application(
+pub fn check_command_code_and_read_application(
     tables: &Tables,
     item: &CommandItem<'_>,
 ) -> Result<(u32, u32), DictFault>

@@ -19,7 +19,7 @@ ghost use Rattle.dm_grammar.specs.Items.Written.{AvpIs, GroupIs};
 
 use crate::DictFault;
 use crate::checks::{
-    check_avp_code_and_vendor, check_avp_name, check_command_code_and_application,
+    check_avp_code_and_vendor, check_avp_name, check_command_code_and_read_application,
     check_command_name, check_vendor,
 };
 use crate::entries::rule_of_items;
@@ -170,7 +170,7 @@ fn define_command(
         (command_item_faults tables.old.commands.items (view_command item.now))) }
 {
     check_command_name(tables, item.name)?;
-    let (code, application) = check_command_code_and_application(tables, item)?;
+    let (code, application) = check_command_code_and_read_application(tables, item)?;
     let command = CommandDef {
         name: Octets::from_slice(alloc, item.name.text)?,
         code,

@@ -107,8 +107,8 @@ fn push_spaced_entries(text: &mut Vec<u8>, entries: &[Entry]) -> Result<(), NoMe
     Ok(())
 }
 
-/// What stands behind the numbers of a head: its end, the rule and the end of the line.
-fn push_head_end_rule_and_lf(text: &mut Vec<u8>, rule: &Rule) -> Result<(), NoMemory>
+/// What stands behind the numbers of a head: the bracket that ends it, the rule and the end of the line.
+fn push_spaced_bracket_rule_and_lf(text: &mut Vec<u8>, rule: &Rule) -> Result<(), NoMemory>
     ensures { OnOk result (text.new.items ≡ text.old.items ++ rule_end rule.now) }
 {
     push_piece(text, b" >")?;
@@ -162,8 +162,8 @@ fn push_spaced_value_list(text: &mut Vec<u8>, values: &[EnumValue]) -> Result<()
     }
 }
 
-/// What stands behind the code of an AVP that isn't Grouped.
-fn push_type_vendor_values_and_lf(text: &mut Vec<u8>, avp: &AvpDef) -> Result<(), NoMemory>
+/// What stands behind the code of an AVP that isn't Grouped: its type, vendor and values, and the end of the line.
+fn push_spaced_type_to_line_feed(text: &mut Vec<u8>, avp: &AvpDef) -> Result<(), NoMemory>
     ensures { OnOk result (text.new.items ≡ text.old.items ++ plain_end avp.now) }
 {
     push_spaced_type_name(text, avp.kind)?;
@@ -178,10 +178,11 @@ fn push_ungrouped_avp_line(text: &mut Vec<u8>, avp: &AvpDef) -> Result<(), NoMem
     push_piece(text, b"@ ")?;
     push_piece(text, avp.name.as_slice())?;
     push_spaced_number(text, avp.code)?;
-    push_type_vendor_values_and_lf(text, avp)
+    push_spaced_type_to_line_feed(text, avp)
 }
 
-fn push_group_head_behind_name(text: &mut Vec<u8>, avp: &AvpDef) -> Result<(), NoMemory>
+/// What stands behind the name of a group: the end of its title, `::=`, and its head but for the end.
+fn push_spaced_bracket_and_group_head(text: &mut Vec<u8>, avp: &AvpDef) -> Result<(), NoMemory>
     ensures { OnOk result (text.new.items ≡ text.old.items ++ group_head_text avp.now) }
 {
     push_piece(text, b" > ::= < AVP Header:")?;
@@ -194,8 +195,8 @@ fn push_group_line(text: &mut Vec<u8>, avp: &AvpDef) -> Result<(), NoMemory>
 {
     push_piece(text, b"< ")?;
     push_piece(text, avp.name.as_slice())?;
-    push_group_head_behind_name(text, avp)?;
-    push_head_end_rule_and_lf(text, &avp.rule)
+    push_spaced_bracket_and_group_head(text, avp)?;
+    push_spaced_bracket_rule_and_lf(text, &avp.rule)
 }
 
 fn push_avp_line(text: &mut Vec<u8>, avp: &AvpDef) -> Result<(), NoMemory>
@@ -215,7 +216,11 @@ fn push_command_flags(text: &mut Vec<u8>, command: &CommandDef) -> Result<(), No
     push_word_if_set(text, command.err, b", ERR")
 }
 
-fn push_command_head_behind_name(text: &mut Vec<u8>, command: &CommandDef) -> Result<(), NoMemory>
+/// What stands behind the name of a command: the end of its title, `::=`, and its head but for the end.
+fn push_spaced_bracket_and_command_head(
+    text: &mut Vec<u8>,
+    command: &CommandDef,
+) -> Result<(), NoMemory>
     ensures { OnOk result (text.new.items ≡ text.old.items ++ command_head_text command.now) }
 {
     push_piece(text, b" > ::= < Diameter Header:")?;
@@ -229,8 +234,8 @@ fn push_command_line(text: &mut Vec<u8>, command: &CommandDef) -> Result<(), NoM
 {
     push_piece(text, b"< ")?;
     push_piece(text, command.name.as_slice())?;
-    push_command_head_behind_name(text, command)?;
-    push_head_end_rule_and_lf(text, &command.rule)
+    push_spaced_bracket_and_command_head(text, command)?;
+    push_spaced_bracket_rule_and_lf(text, &command.rule)
 }
 
 /// Puts the line of each AVP behind the text.

@@ -100,8 +100,8 @@ impl Connection {
         }
     }
 
-    /// Hands out the next whole message from the first end to the second; None where it isn't whole yet. Where memory
-    /// is wanted nothing changes.
+    /// Hands out the next whole message from the first end to the second; None where it isn't whole yet, or where what
+    /// is in order is no message, and the stream is left. Where memory is wanted nothing changes.
     pub fn next_message_from_first(&mut self) -> Result<Option<Vec<u8>>, AllocError>
         ensures message { IfOk result (λ found. IfSome found
             (λ message. HandsMessage self.old.forth message.items self.new.forth)) }
@@ -109,11 +109,11 @@ impl Connection {
         ensures unchanged { OnErr result (self.new ≡ self.old) }
         ensures others { self.new ≡ record self.old { forth = self.new.forth } }
     {
-        self.forth.next_message()
+        self.forth.next_message_or_leave_stream()
     }
 
-    /// Hands out the next whole message from the second end to the first; None where it isn't whole yet. Where memory
-    /// is wanted nothing changes.
+    /// Hands out the next whole message from the second end to the first; None where it isn't whole yet, or where what
+    /// is in order is no message, and the stream is left. Where memory is wanted nothing changes.
     pub fn next_message_from_second(&mut self) -> Result<Option<Vec<u8>>, AllocError>
         ensures message { IfOk result (λ found. IfSome found
             (λ message. HandsMessage self.old.back message.items self.new.back)) }
@@ -121,6 +121,6 @@ impl Connection {
         ensures unchanged { OnErr result (self.new ≡ self.old) }
         ensures others { self.new ≡ record self.old { back = self.new.back } }
     {
-        self.back.next_message()
+        self.back.next_message_or_leave_stream()
     }
 }

@@ -20,7 +20,7 @@ fn is_repeated_syn(own: &Flow, number: u32) -> bool
 
 /// Whether a SYN of this direction answers that of the other one, which was seen: nothing ended this direction, and it
 /// is its first SYN.
-fn answers_syn(own: &Flow, other: &Flow) -> bool
+fn is_answer_to_syn(own: &Flow, other: &Flow) -> bool
     ensures { result ≡ is_answering_syn (record { own = own.now; other = other.now }) }
 {
     is_open(own.why_closed()) && own.syn_number().is_none() && other.syn_number().is_some()
@@ -35,7 +35,7 @@ fn take_syn(own: &mut Flow, other: &mut Flow, number: u32)
     if is_repeated_syn(own, number) {
         return;
     }
-    if !answers_syn(own, other) {
+    if !is_answer_to_syn(own, other) {
         other.begin_with_nothing_seen();
     }
     own.begin_at_syn(number);

@@ -6,18 +6,14 @@ ghost use Rattle.dm_flows.specs.Flows.{known_span, held_octets, pending_octets};
 ghost use Rattle.dm_flows.specs.Flows.{new_flow, begun_unseen, closing_by_fin, octets_within, IsAstrayAt, FlowTakes};
 ghost use Rattle.dm_flows.specs.Flows.{BeginsAnew, TakesWithin, TakesPayload, LeavesPayload};
 ghost use Rattle.dm_flows.specs.Flows.{HandsMessage, HandsNoMessage};
-ghost use Rattle.dm_flows.specs.Windows.{place_ahead};
 
 use crate::closing::Closing;
 use crate::header::begins_with_whole_header;
 use crate::octet_slices::first_octets;
-use crate::window::{Window, WindowFault, sequence_number_behind};
+use crate::window::{Window, WindowFault, count_octets_before_fin, sequence_number_behind};
 use dm_framer::Framer;
 use std::alloc::{AllocError, Global};
 use std::marker::Model;
-
-/// Half of the sequence numbers.
-const HALF: u32 = 2_147_483_648;
 
 /// One direction of a connection: segments go in, Diameter messages come out.
 ///
@@ -62,15 +58,6 @@ fn capped_octet_sum(passed: u64, octets: usize) -> u64
     passed.saturating_add(octets as u64)
 }
 
-/// How many octets there are from the sequence number `number` up to `last`, modulo 2^32; none where `last` is before
-/// it.
-fn count_octets_up_to(last: u32, number: u32) -> usize
-    ensures { result ≡ place_ahead number last }
-{
-    let room = last.wrapping_sub(number);
-    if room < HALF { room as usize } else { 0 }
-}
-
 /// The octets, the first of which has this number, up to the end of the direction: all where nothing ended it, none
 /// behind a RST.
 fn octets_before_end(closing: Closing, number: u32, octets: &[u8]) -> &[u8]
@@ -79,7 +66,7 @@ fn octets_before_end(closing: Closing, number: u32, octets: &[u8]) -> &[u8]
 {
     match closing {
         Closing::Open => octets,
-        Closing::Fin(last) => first_octets(octets, count_octets_up_to(last, number)),
+        Closing::Fin(fin) => first_octets(octets, count_octets_before_fin(number, fin)),
         Closing::Reset => &octets[..0],
     }
 }
@@ -272,7 +259,7 @@ impl Flow {
         let Some(window) = &mut self.window else {
             return Ok(false);
         };
-        if !octets.is_empty() && window.is_far_behind(number) {
+        if !octets.is_empty() && window.is_far_before_next(number) {
             return Ok(false);
         }
         match window.take_and_hand_out(number, octets, &mut self.fresh) {
@@ -306,11 +293,9 @@ impl Flow {
         self.fresh = front;
     }
 
-    /// Hands out the next whole message; None where it isn't whole yet.
-    ///
-    /// Where what is in order is no message the stream is left, and None is answered. Where memory is wanted nothing
-    /// changes.
-    pub fn next_message(&mut self) -> Result<Option<Vec<u8>>, AllocError>
+    /// Hands out the next whole message; None where it isn't whole yet, or where what is in order is no message, and
+    /// the stream is left. Where memory is wanted nothing changes.
+    pub fn next_message_or_leave_stream(&mut self) -> Result<Option<Vec<u8>>, AllocError>
         ensures message { IfOk result (λ found. IfSome found
             (λ message. HandsMessage self.old message.items self.new)) }
         ensures none { IfOk result (λ found. IfNone found (HandsNoMessage self.old self.new)) }

@@ -31,7 +31,7 @@ pub(crate) fn network_by_ethertype(kind: u16) -> Option<Network>
 }
 
 /// The version of IP that a family of addresses names, as BSD counts these; None where it names none.
-fn network_by_family(family: u32) -> Option<Network>
+fn network_by_bsd_family(family: u32) -> Option<Network>
     ensures { result ≡ network_of_family family }
 {
     match family {
@@ -46,7 +46,7 @@ pub(crate) fn network_by_big_endian_family(octets: &[u8]) -> Option<Network>
     requires { 4 ≤ length octets.now }
     ensures { result ≡ network_of_family (big_number 4 octets.now) }
 {
-    network_by_family(BigEndian::read_u32(octets))
+    network_by_bsd_family(BigEndian::read_u32(octets))
 }
 
 /// The version of IP that a family of addresses names in either order of its octets; None where it names none.
@@ -54,9 +54,9 @@ pub(crate) fn network_by_host_family(octets: &[u8]) -> Option<Network>
     requires { 4 ≤ length octets.now }
     ensures { result ≡ host_network octets.now }
 {
-    match network_by_family(BigEndian::read_u32(octets)) {
+    match network_by_bsd_family(BigEndian::read_u32(octets)) {
         Some(network) => Some(network),
-        None => network_by_family(LittleEndian::read_u32(octets)),
+        None => network_by_bsd_family(LittleEndian::read_u32(octets)),
     }
 }
 

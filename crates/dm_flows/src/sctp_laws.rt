@@ -9,8 +9,8 @@ pub fn packets_hold_one_sctp_or_reason()
     ensures reason { OneSctpReason }
 {}
 
-/// All chunks of a packet are read, and its DATA chunks are one list.
-pub fn data_chunks_make_one_list()
+/// All chunks of a packet are read, and it has one list of DATA chunks.
+pub fn packets_have_one_data_list()
     ensures some { EachHasDataList }
     ensures one { OneDataList }
 {}

@@ -77,6 +77,15 @@ fn place_of_sequence(next: u32, sequence: u32) -> Place
     }
 }
 
+/// How many octets there are from the one with this sequence number up to the end, `fin`, which is a FIN's number; none
+/// where that is before it. Numbers are compared modulo 2^32.
+pub(crate) fn count_octets_before_fin(number: u32, fin: u32) -> usize
+    ensures { result ≡ place_ahead number fin }
+{
+    let room = fin.wrapping_sub(number);
+    if room < HALF { room as usize } else { 0 }
+}
+
 /// The sequence number behind so many octets, of which the first has this number.
 pub(crate) fn sequence_number_behind(number: u32, octets: usize) -> u32
     ensures { result ≡ sequence_behind number octets }
@@ -122,7 +131,7 @@ impl Window {
 
     /// Whether octets, of which the first has this sequence number, begin more than [`WINDOW`] octets before the next
     /// one. It never answers want of memory.
-    pub fn is_far_behind(&self, sequence: u32) -> bool
+    pub fn is_far_before_next(&self, sequence: u32) -> bool
         ensures { result ≡ lies_far_behind self.now.next sequence }
     {
         WINDOW < place_of_sequence(self.next, sequence).passed

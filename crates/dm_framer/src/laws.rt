@@ -30,7 +30,7 @@ pub fn frames_in_a_row_stay_themselves()
 
 /// At most one frame stands at a stream's front, and none where a fault does; a fault stands there whatever comes
 /// behind.
-pub fn frame_or_fault_excludes_others()
+pub fn one_front_frame_or_lasting_fault()
     ensures frame { OneFront }
     ensures either { FrameOrFault }
     ensures fault { FaultStands }

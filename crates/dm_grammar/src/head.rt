@@ -14,7 +14,7 @@ use crate::reading::Reading;
 use crate::symbol::Symbol;
 use crate::terminal::Terminal;
 use crate::token::Token;
-use crate::vendor::read_vendor_colon;
+use crate::vendor::read_colon_before_vendor_name;
 
 /// What stands between `<` and `>`: the code, the flags of a command, the second number, and the name of a
 /// group's vendor.
@@ -46,7 +46,7 @@ fn read_comma_and_flag<'t, 'a>(tokens: &'t [Token<'a>], symbol: Symbol) -> (bool
 }
 
 /// The second number and the end of a head: [[","] number] ">".
-fn read_number_and_head_end<'t, 'a>(
+fn read_comma_number_and_head_end<'t, 'a>(
     tokens: &'t [Token<'a>],
     how: Reading,
 ) -> Result<(Option<Token<'a>>, &'t [Token<'a>]), usize>
@@ -95,7 +95,7 @@ fn read_command_head_from_colon<'t, 'a>(
     let (request, rest) = read_comma_and_flag(rest, Symbol::Req);
     let (proxiable, rest) = read_comma_and_flag(rest, Symbol::Pxy);
     let (error, rest) = read_comma_and_flag(rest, Symbol::Err);
-    let (second, rest) = read_number_and_head_end(rest, how)?;
+    let (second, rest) = read_comma_number_and_head_end(rest, how)?;
     let head = Head {
         command: true,
         code: words.1,
@@ -119,7 +119,7 @@ fn read_vendor_and_head_end<'t, 'a>(
         (λ line. collect how GroupCoded (view_words tokens.now) ≡ Err line) }
     ensures shorter { IfOk result (λ x. length x.1.now < length tokens.now) }
 {
-    let (named, rest) = read_vendor_colon(tokens, how);
+    let (named, rest) = read_colon_before_vendor_name(tokens, how);
     if named {
         let (words, rest) = expect_two_tokens(
             rest,
@@ -129,7 +129,7 @@ fn read_vendor_and_head_end<'t, 'a>(
         )?;
         Ok(((Some(words.0), None), rest))
     } else {
-        let (number, rest) = read_number_and_head_end(tokens, how)?;
+        let (number, rest) = read_comma_number_and_head_end(tokens, how)?;
         Ok(((None, number), rest))
     }
 }
@@ -195,7 +195,7 @@ fn read_group_head_from_header<'t, 'a>(
 }
 
 /// A head: ("Diameter" "Header" | "Diameter-Header") or ("AVP" "Header" | "AVP-Header"), and its rest.
-pub(crate) fn read_head<'t, 'a>(
+pub(crate) fn read_head_behind_less<'t, 'a>(
     tokens: &'t [Token<'a>],
     how: Reading,
 ) -> Result<(Head<'a>, &'t [Token<'a>]), usize>

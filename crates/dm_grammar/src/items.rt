@@ -26,7 +26,7 @@ use crate::symbol::Symbol;
 use crate::terminal::Terminal;
 use crate::title::read_title_and_head;
 use crate::token::Token;
-use crate::vendor::{begins_vendor_item, named_or_numbered_vendor, read_vendor_item};
+use crate::vendor::{begins_vendor_item, named_or_numbered_vendor, read_vendor_item_behind_at};
 use crate::version::read_version_and_body;
 use std::alloc::Global;
 
@@ -92,7 +92,7 @@ fn read_vendor_or_avp<'t, 'a>(
     ensures shorter { IfOk result (λ x. length x.1.now < length tokens.now) }
 {
     if begins_vendor_item(tokens, how) {
-        match read_vendor_item(tokens, how) {
+        match read_vendor_item_behind_at(tokens, how) {
             Ok((vendor, rest)) => Ok((Item::Vendor(vendor), rest)),
             Err(line) => Err(ItemFault::Syntax(line)),
         }

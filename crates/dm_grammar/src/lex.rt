@@ -51,7 +51,7 @@ fn word_len_of_sixteen(octets: u8x16) -> usize
     ensures value { result ≡ prefix_len goes_on octets }
     ensures within { result ≤ 16 }
 {
-    let ends = non_word_octet_mask(octets);
+    let ends = non_word_octet_bitmask(octets);
     if ends == 0 {
         16
     } else {
@@ -61,7 +61,7 @@ fn word_len_of_sixteen(octets: u8x16) -> usize
 
 /// A bit for each octet that is none of a word's.
 #[inline(always)]
-fn non_word_octet_mask(octets: u8x16) -> u64
+fn non_word_octet_bitmask(octets: u8x16) -> u64
     ensures { result ≡ mask_l (map (λ c. not (goes_on c)) octets) }
 {
     let numbers = (octets - u8x16::splat(b'0')).simd_lt(u8x16::splat(10));
@@ -83,7 +83,7 @@ fn word_len_of_few(text: &[u8]) -> usize
 }
 
 /// How many octets stand before the end of the line.
-fn len_to_line_end(text: &[u8]) -> usize
+fn len_before_line_feed(text: &[u8]) -> usize
     ensures value { result ≡ prefix_len not_line_end text.now }
     ensures within { result ≤ length text.now }
 {
@@ -128,7 +128,7 @@ fn next_token(text: &[u8], at: usize, line: usize) -> Option<(Token<'_>, usize)>
         } else if is_space_tab_or_return(first) {
             at += 1;
         } else if first == b';' {
-            at += len_to_line_end(&text[at..]);
+            at += len_before_line_feed(&text[at..]);
         } else {
             let (symbol, len) = first_symbol_and_len(&text[at..]);
             let token = Token {

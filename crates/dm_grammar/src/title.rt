@@ -10,7 +10,7 @@ ghost use Rattle.dm_grammar.specs.Told.{collect, filled};
 ghost use Rattle.dm_grammar.specs.Views.{view_word, view_head, view_words};
 
 use crate::first_tokens::{expect_two_tokens, fault_line, is_terminal_at, take_token_if};
-use crate::head::{Head, read_head};
+use crate::head::{Head, read_head_behind_less};
 use crate::reading::Reading;
 use crate::symbol::Symbol;
 use crate::terminal::Terminal;
@@ -76,7 +76,7 @@ fn read_title<'t, 'a>(
 }
 
 /// title "::=" "<"
-fn read_title_up_to_head<'t, 'a>(
+fn read_title_define_and_less<'t, 'a>(
     tokens: &'t [Token<'a>],
     how: Reading,
 ) -> Result<(Token<'a>, &'t [Token<'a>]), usize>
@@ -111,7 +111,7 @@ pub(crate) fn read_title_and_head<'t, 'a>(
         (λ line. collect how Text (view_words tokens.now) ≡ Err line) }
     ensures shorter { IfOk result (λ x. length x.1.now < length tokens.now) }
 {
-    let (name, rest) = read_title_up_to_head(tokens, how)?;
-    let (head, rest) = read_head(rest, how)?;
+    let (name, rest) = read_title_define_and_less(tokens, how)?;
+    let (head, rest) = read_head_behind_less(rest, how)?;
     Ok(((name, head), rest))
 }

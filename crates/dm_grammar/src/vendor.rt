@@ -29,7 +29,7 @@ pub(crate) fn begins_vendor_item(tokens: &[Token<'_>], how: Reading) -> bool
 }
 
 /// What follows `@` of a vendor: `vendor` name number.
-pub(crate) fn read_vendor_item<'t, 'a>(
+pub(crate) fn read_vendor_item_behind_at<'t, 'a>(
     tokens: &'t [Token<'a>],
     how: Reading,
 ) -> Result<(VendorItem<'a>, &'t [Token<'a>]), usize>
@@ -61,7 +61,7 @@ pub(crate) fn named_or_numbered_vendor<'a>(
 }
 
 /// `:` before a vendor's name, where it is there and the text of version 2.
-pub(crate) fn read_vendor_colon<'t, 'a>(
+pub(crate) fn read_colon_before_vendor_name<'t, 'a>(
     tokens: &'t [Token<'a>],
     how: Reading,
 ) -> (bool, &'t [Token<'a>])
@@ -93,7 +93,7 @@ pub(crate) fn read_vendor_word<'t, 'a>(
         (λ line. collect how p (view_words tokens.now) ≡ Err line) }
     ensures shorter { IfOk result (λ x. length x.1.now ≤ length tokens.now) }
 {
-    let (named, behind) = read_vendor_colon(tokens, how);
+    let (named, behind) = read_colon_before_vendor_name(tokens, how);
     if named {
         let (name, rest) = expect_token(behind, how, Terminal::AnyName)?;
         Ok((Some(VendorWord::Named(name)), rest))

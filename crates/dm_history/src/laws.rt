@@ -9,9 +9,9 @@ ghost use Rattle.dm_history.specs.Opened.{EachOpeningWasAsked};
 use dm_machine::laws::{
     acked_taken_and_open_connections_have_causes, ceas_open_and_cers_go_at_acks,
     connection_changes_and_orders_are_allowed, connection_orders_are_its_commands,
-    dwas_dpas_and_refusals_have_requests, few_steps_stand_for_all,
-    given_up_is_closed_others_left_alone, messages_do_the_same_where_unread,
-    open_connections_carry_user_messages, shaped_nodes_have_eight_forms,
+    dwas_dpas_and_refusing_answers_have_requests, few_steps_stand_for_all,
+    given_up_is_closed_unnamed_stays_unheld, messages_do_the_same_where_unread,
+    one_open_connection_carries_user_messages, shaped_cores_have_eight_forms,
 };
 use dm_peer::laws::{each_event_keeps_peers_settled, events_are_steps_drops_or_refusals};
 
@@ -22,10 +22,10 @@ pub fn each_opening_follows_cer_and_cea()
     ensures { EachOpeningWasAsked }
 {
     each_event_keeps_peers_settled();
-    shaped_nodes_have_eight_forms();
+    shaped_cores_have_eight_forms();
     acked_taken_and_open_connections_have_causes();
     ceas_open_and_cers_go_at_acks();
-    given_up_is_closed_others_left_alone();
+    given_up_is_closed_unnamed_stays_unheld();
     connection_orders_are_its_commands();
     messages_do_the_same_where_unread();
 }
@@ -33,18 +33,18 @@ pub fn each_opening_follows_cer_and_cea()
 /// What a peer hands up came just then on the one connection on which it is open, where each message of another command
 /// than 257, 280 and 282 is handed up, and no other; what it sends is its own base message, or one of another command
 /// that was submitted just then and goes on that connection.
-pub fn each_run_carries_user_messages()
+pub fn user_messages_have_submits_or_arrivals()
     ensures { EachRunCarries }
 {
     each_event_keeps_peers_settled();
-    shaped_nodes_have_eight_forms();
+    shaped_cores_have_eight_forms();
     acked_taken_and_open_connections_have_causes();
     ceas_open_and_cers_go_at_acks();
-    given_up_is_closed_others_left_alone();
-    dwas_dpas_and_refusals_have_requests();
+    given_up_is_closed_unnamed_stays_unheld();
+    dwas_dpas_and_refusing_answers_have_requests();
     connection_orders_are_its_commands();
     messages_do_the_same_where_unread();
-    open_connections_carry_user_messages();
+    one_open_connection_carries_user_messages();
 }
 
 /// A connection that has ended, by a Close of the peer, its disconnect, or its Nack before it was made, stays unheld,
@@ -56,7 +56,7 @@ pub fn ended_connections_stay_silent_until_named()
 {
     connection_changes_and_orders_are_allowed();
     each_event_keeps_peers_settled();
-    given_up_is_closed_others_left_alone();
+    given_up_is_closed_unnamed_stays_unheld();
     connection_orders_are_its_commands();
 }
 
@@ -66,7 +66,7 @@ pub fn runs_hand_up_all_in_order()
     ensures { EachRunIsInOrder }
 {
     each_event_keeps_peers_settled();
-    open_connections_carry_user_messages();
+    one_open_connection_carries_user_messages();
 }
 
 /// An open connection stays open exactly at all events but these: a Stop, its disconnect, the third Tick since
@@ -78,7 +78,7 @@ pub fn only_listed_events_end_open_connections()
 {
     events_are_steps_drops_or_refusals();
     each_event_keeps_peers_settled();
-    shaped_nodes_have_eight_forms();
+    shaped_cores_have_eight_forms();
 }
 
 /// The watchdog's count of an open peer is that of the Ticks since something came on its connection, or since it was
@@ -88,7 +88,7 @@ pub fn watchdogs_count_ticks_since_something_came()
 {
     events_are_steps_drops_or_refusals();
     each_event_keeps_peers_settled();
-    shaped_nodes_have_eight_forms();
+    shaped_cores_have_eight_forms();
     few_steps_stand_for_all();
 }
 
@@ -99,5 +99,5 @@ pub fn each_done_submit_is_sent_once()
     ensures throughout { EachRunSends }
 {
     each_event_keeps_peers_settled();
-    shaped_nodes_have_eight_forms();
+    shaped_cores_have_eight_forms();
 }

@@ -13,12 +13,12 @@ ghost use Rattle.dm_history.specs.Telling.{RepliesSo, Replied, events_told, run_
 
 use crate::laws::{
     each_done_submit_is_sent_once, each_opening_follows_cer_and_cea,
-    each_run_carries_user_messages, ended_connections_stay_silent_until_named,
-    only_listed_events_end_open_connections, runs_hand_up_all_in_order,
+    ended_connections_stay_silent_until_named, only_listed_events_end_open_connections,
+    runs_hand_up_all_in_order, user_messages_have_submits_or_arrivals,
     watchdogs_count_ticks_since_something_came,
 };
 use dm_dict::NoMemory;
-use dm_peer::laws::every_peer_is_settled_with_fitting_numbers;
+use dm_peer::laws::peers_are_settled_with_encodable_numbers;
 use dm_peer::{Actions, Event, Peer, PeerFault};
 use std::alloc::Global;
 
@@ -127,12 +127,12 @@ pub fn run(peer: &mut Peer, alloc: Global, events: &[Event<'_>]) -> Report
         peer.new.standing.core.count ≡ ticks_since peer.old c (run_of events.now result.replies.items) }
 {
     each_opening_follows_cer_and_cea();
-    each_run_carries_user_messages();
+    user_messages_have_submits_or_arrivals();
     ended_connections_stay_silent_until_named();
     runs_hand_up_all_in_order();
     each_done_submit_is_sent_once();
     only_listed_events_end_open_connections();
     watchdogs_count_ticks_since_something_came();
-    every_peer_is_settled_with_fitting_numbers(peer);
+    peers_are_settled_with_encodable_numbers(peer);
     tell_events_while_memory_lasts(peer, alloc, events)
 }

@@ -11,8 +11,8 @@ ghost use Rattle.dm_live.specs.Meetings.{meeting_of};
 ghost use Rattle.dm_live.specs.OrderLines.{order_asked};
 
 use crate::answer_lines::{
-    put_answer_states, put_event_answer, put_ignored_if_event_order, put_neighbour_line_if_any,
-    put_order_refusal, put_turn,
+    put_answer_states, put_event_answer, put_ignored_unless_accept_or_reset,
+    put_neighbour_line_if_any, put_order_refusal_line, put_turn,
 };
 use crate::asked::Asked;
 use crate::form::Form;
@@ -24,7 +24,7 @@ use std::alloc::{AllocError, Global};
 ///
 /// Behind a piece all that came on its connection is told, message by message. Where memory is wanted some of it may be
 /// told, and a front of the answer may stand in the text.
-pub fn answer_order_or_piece(
+pub fn answer_asked_without_dot(
     alloc: Global,
     form: Form,
     node: &mut Node,
@@ -81,7 +81,7 @@ fn answer_order(
         Err(fault) => {
             let who = refusing_neighbour(order, fault);
             put_neighbour_line_if_any(text, form, who)?;
-            put_order_refusal(text, fault)?;
+            put_order_refusal_line(text, fault)?;
             Ok(who)
         }
     }
@@ -100,7 +100,7 @@ fn put_order_outcome(
 {
     match answer.told {
         Told::Nothing => {
-            put_ignored_if_event_order(text, order)?;
+            put_ignored_unless_accept_or_reset(text, order)?;
             Ok(neighbour_to_reset(order))
         }
         _ => {

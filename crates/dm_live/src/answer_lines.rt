@@ -18,7 +18,7 @@ ghost use Rattle.dm_live.specs.AnswerLines.{held_words, standing_words};
 
 use crate::asked::Asked;
 use crate::form::Form;
-use crate::line_ends::{put_number_and_end, put_octets_and_end};
+use crate::line_ends::{put_words_number_and_line_end, put_words_octets_and_line_end};
 use dm_machine::Conn;
 use dm_node::{Answer, Node, Order, OrderFault, Told};
 use dm_peer::{Action, Peer, PeerFault};
@@ -31,10 +31,10 @@ fn put_action_line(text: &mut String, action: &Action) -> Result<(), AllocError>
     ensures { OnOk result (string_bytes text.new ≡ string_bytes text.old ++ action_line action.now) }
 {
     match action {
-        Action::Connect(conn) => put_number_and_end(text, "connect ", conn.0),
+        Action::Connect(conn) => put_words_number_and_line_end(text, "connect ", conn.0),
         Action::Send(conn, octets) => put_send_line(text, *conn, octets.as_slice()),
-        Action::Close(conn) => put_number_and_end(text, "close ", conn.0),
-        Action::Up(octets) => put_octets_and_end(text, "up ", octets.as_slice()),
+        Action::Close(conn) => put_words_number_and_line_end(text, "close ", conn.0),
+        Action::Up(octets) => put_words_octets_and_line_end(text, "up ", octets.as_slice()),
     }
 }
 
@@ -45,7 +45,7 @@ fn put_send_line(text: &mut String, conn: Conn, message: &[u8]) -> Result<(), Al
 {
     text.push_str("send ")?;
     put_decimal(text, conn.0)?;
-    put_octets_and_end(text, " ", message)
+    put_words_octets_and_line_end(text, " ", message)
 }
 
 /// Appends the lines of actions, in order.
@@ -67,14 +67,14 @@ fn put_arrival_line_if_message(text: &mut String, conn: Conn, told: Told) -> Res
         → OnOk result (string_bytes text.new ≡ string_bytes text.old ++ arrival_line None) }
 {
     match told {
-        Told::Message => put_number_and_end(text, "arrived ", conn.0),
+        Told::Message => put_words_number_and_line_end(text, "arrived ", conn.0),
         _ => Ok(()),
     }
 }
 
-/// Appends why an order was refused. Want of memory has no words, and is answered as such.
+/// Appends the line of why a peer refused an order. Want of memory has no words, and is answered as such.
 #[tactic(auto, unfolding(crate::specs::AnswerLines::refusal_line))]
-fn put_peer_refusal(text: &mut String, fault: PeerFault) -> Result<(), AllocError>
+fn put_peer_refusal_line(text: &mut String, fault: PeerFault) -> Result<(), AllocError>
     ensures words { OnOk result (string_bytes text.new ≡ string_bytes text.old ++ refusal_line fault) }
     ensures known { OnOk result (fault ≢ PeerFault.NoMemory) }
 {
@@ -101,9 +101,9 @@ pub(crate) fn put_fault_line_and_dot(
     text.push_str("\n.\n")
 }
 
-/// Appends the connection, where one is held, behind its letter.
+/// Appends the connection behind its letter; nothing where none is held.
 #[tactic(auto, unfolding(crate::specs::AnswerLines::held_words))]
-fn put_held_connection(
+fn put_connection_if_held(
     text: &mut String,
     letter: &str,
     held: Option<Conn>,
@@ -117,13 +117,13 @@ fn put_held_connection(
     Ok(())
 }
 
-/// Appends the peer's state, and the connections that it holds.
-fn put_standing(text: &mut String, peer: &Peer) -> Result<(), AllocError>
+/// Appends the peer's state, the connections that it holds, and the end of the line.
+fn put_standing_and_line_end(text: &mut String, peer: &Peer) -> Result<(), AllocError>
     ensures { OnOk result (string_bytes text.new ≡ string_bytes text.old ++ standing_words peer.now) }
 {
     text.push_str(peer.state().name())?;
-    put_held_connection(text, " i", peer.initiated())?;
-    put_held_connection(text, " r", peer.accepted())?;
+    put_connection_if_held(text, " i", peer.initiated())?;
+    put_connection_if_held(text, " r", peer.accepted())?;
     text.push_str("\n")?;
     Ok(())
 }
@@ -138,7 +138,11 @@ pub(crate) fn put_neighbour_line_if_any(
     ensures { OnOk result (string_bytes text.new ≡ string_bytes text.old ++ neighbour_line form index) }
 {
     match (form, index) {
-        (Form::Several, Some(index)) => put_number_and_end(text, "neighbour ", index as u64),
+        (Form::Several, Some(index)) => put_words_number_and_line_end(
+            text,
+            "neighbour ",
+            index as u64,
+        ),
         (Form::Several, None) => Ok(()),
         (Form::Alone, _) => Ok(()),
     }
@@ -172,9 +176,9 @@ pub(crate) fn put_turn(
     put_action_lines(text, turn.actions.as_slice())
 }
 
-/// Appends that an order told no event, where it is one of those that tell one.
+/// Appends that an order told no event, where it is one of those that tell one: all but an accept and the resets.
 #[tactic(auto, unfolding(crate::specs::Answers::ignored_line))]
-pub(crate) fn put_ignored_if_event_order(
+pub(crate) fn put_ignored_unless_accept_or_reset(
     text: &mut String,
     order: Order<'_>,
 ) -> Result<(), AllocError>
@@ -187,15 +191,15 @@ pub(crate) fn put_ignored_if_event_order(
     }
 }
 
-/// Appends why an order was refused. Want of memory has no words, and is answered as such.
+/// Appends the line of why an order was refused. Want of memory has no words, and is answered as such.
 #[tactic(auto, unfolding(crate::specs::Answers::event_refusal_line))]
-pub(crate) fn put_order_refusal(text: &mut String, fault: OrderFault) -> Result<(), AllocError>
+pub(crate) fn put_order_refusal_line(text: &mut String, fault: OrderFault) -> Result<(), AllocError>
     ensures words { OnOk result (string_bytes text.new ≡ string_bytes text.old ++ event_refusal_line fault) }
     ensures known { OnOk result (fault ≢ faults.Peer peer_faults.NoMemory) }
 {
     match fault {
         OrderFault::NoNeighbour => text.push_str("refused NoNeighbour\n"),
-        OrderFault::Peer(fault) => put_peer_refusal(text, fault),
+        OrderFault::Peer(fault) => put_peer_refusal_line(text, fault),
     }
 }
 
@@ -208,7 +212,7 @@ fn put_peer_state(text: &mut String, index: usize, peer: &Peer) -> Result<(), Al
     text.push_str("state ")?;
     put_decimal(text, index as u64)?;
     text.push_str(" ")?;
-    put_standing(text, peer)
+    put_standing_and_line_end(text, peer)
 }
 
 /// Appends how the neighbour of a place stands, where one is there.
@@ -264,7 +268,7 @@ fn put_lone_peer_state(text: &mut String, node: &Node) -> Result<(), AllocError>
     match node.peer(0) {
         Some(peer) => {
             text.push_str("state ")?;
-            put_standing(text, peer)
+            put_standing_and_line_end(text, peer)
         }
         None => Ok(()),
     }

@@ -1,4 +1,4 @@
-//! The configuration, line by line.
+//! The configuration, line by line, and the node and the config that it makes, or the name of why it makes none.
 ghost use Rattle.std.specs.Prelude.{◌≡◌, ◌≢◌, ◌∷◌, [], true, false, Some, None};
 ghost use Rattle.std.specs.Prelude.{IfOk, IfErr, OnOk};
 ghost use Rattle.std.specs.Result.{result_err};
@@ -15,8 +15,8 @@ ghost use Rattle.dm_live.specs.Settings.{TellsOne, TellsSpecific, TellsSetting};
 
 use crate::setting_name::{SettingName, read_setting_name, read_vendor_application_name};
 use crate::setting_words::{
-    push_address, push_any_name, push_number, set_any_name, set_number, set_optional_number,
-    set_text,
+    push_address, push_any_word_as_name, push_number, set_name_to_any_word, set_number,
+    set_optional_number, set_text,
 };
 use dm_base::{Extras, ExtrasFault, Node, NodeFault, VendorApplication};
 use dm_peer::{Config, ConfigFault};
@@ -154,8 +154,8 @@ impl Draft {
         ensures kept { IfOk result (λ good. good ≡ false → settings_of self.new ≡ settings_of self.old) }
     {
         match name {
-            SettingName::Host => set_any_name(&mut self.host, word),
-            SettingName::Realm => set_any_name(&mut self.realm, word),
+            SettingName::Host => set_name_to_any_word(&mut self.host, word),
+            SettingName::Realm => set_name_to_any_word(&mut self.realm, word),
             SettingName::Address => push_address(&mut self.addresses, word),
             SettingName::Vendor => Ok(set_number(&mut self.vendor, word)),
             SettingName::Product => set_text(&mut self.product, word),
@@ -164,7 +164,7 @@ impl Draft {
             SettingName::Supports => push_number(&mut self.vendors, word),
             SettingName::Firmware => Ok(set_optional_number(&mut self.firmware, word)),
             SettingName::State => Ok(set_optional_number(&mut self.state_id, word)),
-            SettingName::Peer => push_any_name(&mut self.peers, word),
+            SettingName::Peer => push_any_word_as_name(&mut self.peers, word),
             SettingName::Compare => Ok(set_number(&mut self.compare, word)),
             SettingName::First => Ok(set_number(&mut self.first_id, word)),
             SettingName::Early => Ok(set_number(&mut self.first_max, word)),
@@ -208,9 +208,9 @@ impl Draft {
             (first_told (settings_of self.now).peers) ≡ None)) }
         ensures fault { IfOk result (λ made. IfErr made (λ name. go_fault (settings_of self.now) ≡ Some name.now)) }
     {
-        match self.node_without_extras(alloc)? {
-            Ok(node) => match self.node_with_extras(alloc, node) {
-                Ok(node) => self.config_of_node(alloc, node),
+        match self.own_node_without_extras(alloc)? {
+            Ok(node) => match self.own_node_with_extras(alloc, node) {
+                Ok(node) => self.config_of_own_node(alloc, node),
                 Err(ExtrasFault::TooLong) => Ok(Err("TooLong")),
                 Err(ExtrasFault::NoMemory) => Err(AllocError),
             },
@@ -218,8 +218,8 @@ impl Draft {
         }
     }
 
-    /// The configuration of a node for the first peer, or the name of why there is none.
-    fn config_of_node(
+    /// The configuration of the own node for the first peer, or the name of why there is none.
+    fn config_of_own_node(
         &self,
         alloc: Global,
         node: Node,
@@ -263,8 +263,8 @@ impl Draft {
             || self.state_id.is_some()
     }
 
-    /// The node with the extras that the lines say, if they say any.
-    fn node_with_extras(&self, alloc: Global, node: Node) -> Result<Node, ExtrasFault>
+    /// The own node with the extras that the lines say, if they say any.
+    fn own_node_with_extras(&self, alloc: Global, node: Node) -> Result<Node, ExtrasFault>
         requires { IsOwnOf (settings_of self.now) node }
         ensures made { IfOk result (λ made. IsNodeOf (settings_of self.now) made) }
         ensures good { OnOk result (are_extras_long (settings_of self.now).applications (settings_of self.now).vendors
@@ -301,8 +301,8 @@ impl Draft {
         Extras::new(alloc, applications, vendors, self.firmware, self.state_id)
     }
 
-    /// The node that the lines tell, but for what they say of it beyond, or why there is none.
-    fn node_without_extras(&self, alloc: Global) -> Result<Result<Node, NodeFault>, AllocError>
+    /// The own node that the lines tell, but for the extras that they say of it, or why there is none.
+    fn own_node_without_extras(&self, alloc: Global) -> Result<Result<Node, NodeFault>, AllocError>
         ensures made { IfOk result (λ made. IfOk made (λ node. IsOwnOf (settings_of self.now) node)) }
         ensures fault { IfOk result (λ made. result_err made ≡ own_fault (settings_of self.now)) }
     {

@@ -33,7 +33,7 @@ fn extend_line<R: BufRead>(reader: &mut R, line: &mut Vec<u8>) -> Result<bool, L
 {
     let octets = match reader.fill_buf() {
         Ok(octets) => octets,
-        Err(error) => return fault_unless_interrupted(error),
+        Err(error) => return false_if_interrupted_else_fault(error),
     };
     let (end, done) = line_part_len_and_is_last(octets);
     line.extend_from_slice(&octets[..end])?;
@@ -42,7 +42,7 @@ fn extend_line<R: BufRead>(reader: &mut R, line: &mut Vec<u8>) -> Result<bool, L
 }
 
 /// Answers false where a read was interrupted, which is made again, and else why it failed.
-fn fault_unless_interrupted(error: Error) -> Result<bool, LiveFault>
+fn false_if_interrupted_else_fault(error: Error) -> Result<bool, LiveFault>
     ensures again { IfOk result (λ done. done ≡ false) }
     ensures fault { IfErr result (λ f. (f ≡ LiveFault.Read) ⊎ (f ≡ LiveFault.Memory)) }
 {

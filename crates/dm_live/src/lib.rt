@@ -22,7 +22,7 @@ mod serve;
 mod setting_name;
 mod setting_words;
 
-pub use crate::answer::answer_order_or_piece;
+pub use crate::answer::answer_asked_without_dot;
 pub use crate::asked::Asked;
 pub use crate::fault::LiveFault;
 pub use crate::form::Form;

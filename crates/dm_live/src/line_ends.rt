@@ -8,7 +8,7 @@ use dm_text::{put_decimal, put_hexadecimal};
 use std::alloc::AllocError;
 
 /// Appends words, a number, and the end of the line.
-pub(crate) fn put_number_and_end(
+pub(crate) fn put_words_number_and_line_end(
     text: &mut String,
     words: &str,
     number: u64,
@@ -21,7 +21,7 @@ pub(crate) fn put_number_and_end(
 }
 
 /// Appends words, octets in hexadecimal, and the end of the line.
-pub(crate) fn put_octets_and_end(
+pub(crate) fn put_words_octets_and_line_end(
     text: &mut String,
     words: &str,
     octets: &[u8],

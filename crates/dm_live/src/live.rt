@@ -8,7 +8,7 @@ ghost use Rattle.dm_live.specs.Served.{AnswersSetting, AnswersOrder, AnswersLine
 ghost use Rattle.dm_live.specs.Settings.{no_settings};
 ghost use Rattle.dm_live.specs.Stages.{stage_of};
 
-use crate::answer::answer_order_or_piece;
+use crate::answer::answer_asked_without_dot;
 use crate::answer_lines::put_fault_line_and_dot;
 use crate::begun::{Begun, answer_go};
 use crate::configuration::Draft;
@@ -69,7 +69,7 @@ impl Live {
             self.set_begun(begun);
             return Ok(());
         }
-        take_or_refuse_line(&mut self.draft, number, line, text)
+        take_line_or_put_fault(&mut self.draft, number, line, text)
     }
 
     /// Goes on with what was begun. It takes no memory.
@@ -94,7 +94,7 @@ fn is_go(line: &[u8]) -> bool
 }
 
 /// Goes on with a line that doesn't end the configuration, and answers a bad one.
-fn take_or_refuse_line(
+fn take_line_or_put_fault(
     draft: &mut Draft,
     number: u64,
     line: &[u8],
@@ -132,7 +132,7 @@ fn answer_line_by_running_node(
     }
     match read_order_line(alloc, form, line)? {
         Some(order) => {
-            answer_order_or_piece(alloc, form, node, order.as_order_or_piece(), answer, text)?;
+            answer_asked_without_dot(alloc, form, node, order.as_order_or_piece(), answer, text)?;
             text.push_str(".\n")
         }
         None => put_fault_line_and_dot(text, number, "Syntax"),

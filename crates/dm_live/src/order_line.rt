@@ -8,8 +8,8 @@ use crate::asked::Asked;
 use crate::form::Form;
 use crate::order_name::{OrderName, read_order_name};
 use crate::order_words::{
-    conn_and_word, neighbour_and_cause, neighbour_and_conn, neighbour_and_word, no_word_left,
-    only_conn_left, only_neighbour_left,
+    no_word_left, only_conn_and_word_left, only_conn_left, only_neighbour_and_cause_left,
+    only_neighbour_and_conn_left, only_neighbour_and_word_left, only_neighbour_left,
 };
 use dm_base::Cause;
 use dm_machine::Conn;
@@ -94,7 +94,7 @@ fn read_order_of_name(form: Form, name: OrderName, left: &mut Words<'_>) -> Opti
 {
     match name {
         OrderName::Start => {
-            let (index, conn) = neighbour_and_conn(form, left)?;
+            let (index, conn) = only_neighbour_and_conn_left(form, left)?;
             Some(OrderLine::Start(index, conn))
         }
         OrderName::Ack => Some(OrderLine::Ack(only_conn_left(left)?)),
@@ -104,7 +104,7 @@ fn read_order_of_name(form: Form, name: OrderName, left: &mut Words<'_>) -> Opti
         OrderName::Timeout => Some(OrderLine::Timeout(only_neighbour_left(form, left)?)),
         OrderName::Tick => Some(OrderLine::Tick(only_neighbour_left(form, left)?)),
         OrderName::Stop => {
-            let (index, cause) = neighbour_and_cause(form, left)?;
+            let (index, cause) = only_neighbour_and_cause_left(form, left)?;
             Some(OrderLine::Stop(index, cause))
         }
         OrderName::Octets | OrderName::Submit | OrderName::Reset => None,
@@ -153,7 +153,7 @@ fn read_piece(
     ensures none { IfOk result (λ read. IfNone read ((o : OneAsked)
         → TellsNamed form OrderName.Octets (node_asked o) (words left.old) → ⊥)) }
 {
-    let Some((conn, word)) = conn_and_word(left) else {
+    let Some((conn, word)) = only_conn_and_word_left(left) else {
         return Ok(None);
     };
     match read_hex_word(alloc, word)? {
@@ -173,7 +173,7 @@ fn read_submit(
     ensures none { IfOk result (λ read. IfNone read ((o : OneAsked)
         → TellsNamed form OrderName.Submit (node_asked o) (words left.old) → ⊥)) }
 {
-    let Some((index, word)) = neighbour_and_word(form, left) else {
+    let Some((index, word)) = only_neighbour_and_word_left(form, left) else {
         return Ok(None);
     };
     match read_hex_word(alloc, word)? {

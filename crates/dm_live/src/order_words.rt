@@ -38,7 +38,7 @@ pub(crate) fn only_conn_left(left: &mut Words<'_>) -> Option<Conn>
 }
 
 /// The connection that the next word tells, and the word behind it; None where there aren't just these two.
-pub(crate) fn conn_and_word<'a>(left: &mut Words<'a>) -> Option<(Conn, &'a [u8])>
+pub(crate) fn only_conn_and_word_left<'a>(left: &mut Words<'a>) -> Option<(Conn, &'a [u8])>
     ensures told { IfSome result (λ r. (number : List ℕ) × (words left.old ≡ number ∷ r.1.now ∷ [])
         × TellsLongNumber r.0.0 number) }
     ensures none { IfNone result ((n : ℕ) (number word : List ℕ) → words left.old ≡ number ∷ word ∷ []
@@ -76,7 +76,10 @@ pub(crate) fn only_neighbour_left(form: Form, left: &mut Words<'_>) -> Option<us
 }
 
 /// The neighbour of the order, and the connection behind it; None where the words are others.
-pub(crate) fn neighbour_and_conn(form: Form, left: &mut Words<'_>) -> Option<(usize, Conn)>
+pub(crate) fn only_neighbour_and_conn_left(
+    form: Form,
+    left: &mut Words<'_>,
+) -> Option<(usize, Conn)>
     ensures told { IfSome result (λ r. (more : List (List ℕ)) × NamesNeighbour form r.0 (words left.old) more
         × TellsConn r.1 more) }
     ensures none { IfNone result ((n : ℕ) (c : Conn) (more : List (List ℕ))
@@ -88,7 +91,10 @@ pub(crate) fn neighbour_and_conn(form: Form, left: &mut Words<'_>) -> Option<(us
 }
 
 /// The neighbour of the order, and the cause whose number stands behind it; None where the words are others.
-pub(crate) fn neighbour_and_cause(form: Form, left: &mut Words<'_>) -> Option<(usize, Cause)>
+pub(crate) fn only_neighbour_and_cause_left(
+    form: Form,
+    left: &mut Words<'_>,
+) -> Option<(usize, Cause)>
     ensures told { IfSome result (λ r. (more : List (List ℕ)) × NamesNeighbour form r.0 (words left.old) more
         × (number : List ℕ) × (more ≡ number ∷ []) × TellsNumber (cause_number r.1) number) }
     ensures none { IfNone result ((n : ℕ) (cause : Cause) (number : List ℕ)
@@ -100,7 +106,10 @@ pub(crate) fn neighbour_and_cause(form: Form, left: &mut Words<'_>) -> Option<(u
 }
 
 /// The neighbour of the order, and the word behind it; None where the words are others.
-pub(crate) fn neighbour_and_word<'a>(form: Form, left: &mut Words<'a>) -> Option<(usize, &'a [u8])>
+pub(crate) fn only_neighbour_and_word_left<'a>(
+    form: Form,
+    left: &mut Words<'a>,
+) -> Option<(usize, &'a [u8])>
     ensures told { IfSome result (λ r. NamesNeighbour form r.0 (words left.old) (r.1.now ∷ [])) }
     ensures none { IfNone result ((n : ℕ) (word : List ℕ)
         → NamesNeighbour form n (words left.old) (word ∷ []) → ⊥) }

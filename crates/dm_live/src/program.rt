@@ -97,7 +97,7 @@ fn serve_reader<R: Read + Drop, W: Write>(
     }
 }
 
-/// The status for an outcome, once its words stand on standard error.
+/// The status for an outcome, once its words stand on standard error; it has none where all went well.
 fn write_ending_of_outcome<E: Write>(
     outcome: Option<Result<(), LiveFault>>,
     errors: &mut E,

@@ -13,7 +13,7 @@ ghost use Rattle.dm_live.specs.SenderLines.{name_lines, version_lines, ability_l
 ghost use Rattle.dm_live.specs.SenderLines.{exchange_lines, anew_line, sender_lines, sender_answer};
 
 use crate::form::Form;
-use crate::line_ends::{put_number_and_end, put_octets_and_end};
+use crate::line_ends::{put_words_number_and_line_end, put_words_octets_and_line_end};
 use crate::order_words::only_neighbour_left;
 use dm_base::SenderRef;
 use dm_slots::Acquaintance;
@@ -38,7 +38,7 @@ fn put_octets_line(text: &mut String, name: &str, octets: &[u8]) -> Result<(), A
     ensures { OnOk result (string_bytes text.new ≡ string_bytes text.old ++ octets_line name.now octets.now) }
 {
     text.push_str(name)?;
-    put_octets_and_end(text, " ", octets)
+    put_words_octets_and_line_end(text, " ", octets)
 }
 
 /// Appends a line of a name and a number.
@@ -47,7 +47,7 @@ fn put_number_line(text: &mut String, name: &str, number: u32) -> Result<(), All
     ensures { OnOk result (string_bytes text.new ≡ string_bytes text.old ++ number_line name.now number) }
 {
     text.push_str(name)?;
-    put_number_and_end(text, " ", u64::from(number))
+    put_words_number_and_line_end(text, " ", u64::from(number))
 }
 
 /// Appends a line of the name and the number; nothing where there is no number.

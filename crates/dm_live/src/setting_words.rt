@@ -15,7 +15,7 @@ use std::net::IpAddr;
 use std::str;
 
 /// Takes the word as the name, in place of the one said before. Any word is one, so it answers true.
-pub(crate) fn set_any_name(name: &mut Vec<u8>, word: &[u8]) -> Result<bool, AllocError>
+pub(crate) fn set_name_to_any_word(name: &mut Vec<u8>, word: &[u8]) -> Result<bool, AllocError>
     ensures put { OnOk result (name.new.items ≡ word.now) }
     ensures good { IfOk result (λ good. good ≡ true) }
 {
@@ -25,7 +25,7 @@ pub(crate) fn set_any_name(name: &mut Vec<u8>, word: &[u8]) -> Result<bool, Allo
 }
 
 /// Puts the word as a name behind those said before. Any word is one, so it answers true.
-pub(crate) fn push_any_name(list: &mut Vec<Octets>, word: &[u8]) -> Result<bool, AllocError>
+pub(crate) fn push_any_word_as_name(list: &mut Vec<Octets>, word: &[u8]) -> Result<bool, AllocError>
     ensures put { OnOk result (list.new.items ≡ list.old.items ++ word.now ∷ []) }
     ensures good { IfOk result (λ good. good ≡ true) }
 {

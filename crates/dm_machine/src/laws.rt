@@ -49,9 +49,9 @@ pub fn ceas_open_and_cers_go_at_acks()
     ensures asked { SendsCerAtAck }
 {}
 
-/// What those changes come to where none is: what is closed, what is left alone, and that nothing is ordered behind a
-/// Close.
-pub fn given_up_is_closed_others_left_alone()
+/// What those changes come to where none is: what is closed, that what isn't held and isn't named stays so and is
+/// ordered nothing, and that nothing is ordered behind a Close.
+pub fn given_up_is_closed_unnamed_stays_unheld()
     ensures closed { ClosesWhatItGivesUp }
     ensures alone { LeavesOthersAlone }
     ensures last { EndsAtClose }
@@ -63,23 +63,24 @@ pub fn acked_taken_and_open_connections_have_causes()
     ensures { EachHoldIsCaused }
 {}
 
-/// What an answer answers: a DWA, a DPA and a refusal go out only where the message that asks for them is heard.
-pub fn dwas_dpas_and_refusals_have_requests()
+/// What an answer answers: a DWA, a DPA and an answer that refuses go out only where the request that asks for them is
+/// heard.
+pub fn dwas_dpas_and_refusing_answers_have_requests()
     ensures { AnswersWhatIsHeard }
 {}
 
 /// What goes through an open connection, which is one at most: the messages of the user go out on it at a Submit, and
 /// each message of another command that is heard on it goes up, and nothing else does.
-pub fn open_connections_carry_user_messages()
+pub fn one_open_connection_carries_user_messages()
     ensures submits { SubmitsWhereOpen }
     ensures up { HandsUpWhereOpen }
     ensures each { HandsUpEach }
     ensures one { OpenOnOne }
 {}
 
-/// A node of the right shape is one of eight forms: each state with the connections that it holds, and the counts of
-/// the open ones.
-pub fn shaped_nodes_have_eight_forms()
+/// A core of the right shape, a node in the definitions, is one of eight forms: each state with the connections that it
+/// holds, and the counts of the open ones.
+pub fn shaped_cores_have_eight_forms()
     ensures formed { EachShapeIsAForm }
     ensures shaped { EachFormIsShaped }
 {}
@@ -106,7 +107,7 @@ pub fn messages_do_the_same_where_unread()
 
 /// A stranger changes nothing: what comes on a connection that isn't held leaves the node as it is, and the connection
 /// is closed, behind an answer where a CER is refused; but for a good CER where first messages are read.
-pub fn strangers_are_turned_away()
+pub fn only_good_cers_admit_strangers()
     ensures { TurnsStrangersAway }
 {}
 

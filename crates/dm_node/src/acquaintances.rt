@@ -13,7 +13,7 @@ use std::alloc::{AllocError, Global};
 
 /// Changes what is known in the place where the peer was opened by what came on the connection, or a CER waits by it;
 /// nothing where nobody has the place, nor where the peer was closed.
-fn meet_any_if_opened_by_message(
+fn meet_any_or_set_waiting_cer(
     place: &mut Option<Acquaintance>,
     exchange: Octets,
     conn: Conn,
@@ -23,7 +23,7 @@ fn meet_any_if_opened_by_message(
     ensures { place.new ≡ option_map (known_if_any exchange conn before peer.now) place.old }
 {
     if let Some(known) = place {
-        known.meet_if_opened_by_message(exchange, conn, before, peer);
+        known.meet_or_set_waiting_cer(exchange, conn, before, peer);
     }
 }
 
@@ -113,8 +113,8 @@ impl Acquaintances {
     }
 
     /// What is known of the neighbour of the number behind what came on the connection
-    /// ([`Acquaintance::meet_if_opened_by_message`]). It takes no memory.
-    pub(crate) fn meet_if_opened_by_message(
+    /// ([`Acquaintance::meet_or_set_waiting_cer`]). It takes no memory.
+    pub(crate) fn meet_or_set_waiting_cer(
         &mut self,
         index: usize,
         exchange: Octets,
@@ -126,7 +126,7 @@ impl Acquaintances {
             ≡ with_known index (known_if_any exchange conn before peer.now) (known_of self.old) }
     {
         if index < self.places.len() {
-            meet_any_if_opened_by_message(&mut self.places[index], exchange, conn, before, peer);
+            meet_any_or_set_waiting_cer(&mut self.places[index], exchange, conn, before, peer);
         }
     }
 

@@ -4,7 +4,7 @@ ghost use Rattle.std.specs.Prelude.{◌≡◌, ◌<◌, IfSome, IfNone, length, 
 use dm_peer::Peer;
 
 /// One more than there were, which is no more than there are places.
-pub(crate) fn count_after_adding(peers: &[Option<Peer>], before: usize) -> usize
+pub(crate) fn count_after_adding_one(peers: &[Option<Peer>], before: usize) -> usize
     requires { before < length peers.now }
     ensures { result ≡ suc before }
 {

@@ -118,7 +118,7 @@ impl Node {
         ensures cleared { OnErr result (IsUntold answer.new) }
     {
         taking_back_undoes_feeding();
-        let size = match self.keep_front(conn, piece) {
+        let size = match self.keep_front_or_discard(conn, piece) {
             Ok(size) => size,
             Err(error) => return Err(error),
         };

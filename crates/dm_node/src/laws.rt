@@ -13,8 +13,8 @@ ghost use Rattle.dm_node.specs.NodeSteps.{OrderIsSteps, TurnIsSteps, AddingIsASt
 ghost use Rattle.dm_node.specs.NodeStreams.{NodeCutsAlike, NodeOneTelling, NodeCutsToldOut, NodePiecesToldOut};
 
 use crate::{Node, neighbours};
-use dm_framer::laws::frame_or_fault_excludes_others;
-use dm_machine::laws::given_up_is_closed_others_left_alone;
+use dm_framer::laws::one_front_frame_or_lasting_fault;
+use dm_machine::laws::given_up_is_closed_unnamed_stays_unheld;
 use dm_peer::laws::{
     done_events_are_steps_or_drops, each_event_keeps_peers_settled,
     events_take_named_release_closed_connections,
@@ -26,7 +26,7 @@ use dm_slots::laws::connections_stay_until_closed;
 pub fn neighbours_are_apart(node: &Node)
     ensures { IsNeighbourhood (node_state_of node.now).peers }
 {
-    neighbours::neighbours_are_apart_and_settled(&node.neighbours);
+    neighbours::neighbours_are_apart_and_sound(&node.neighbours);
 }
 
 /// Where no connection is held by two neighbours and no two have one host, an event concerns one neighbour at most.
@@ -60,10 +60,10 @@ pub fn each_held_connection_is_there(node: &Node)
 
 /// No connection is held by two neighbours, no two have one host, and each is what events make of a new peer. The law
 /// stands for users, as the premise of the others.
-pub fn neighbours_are_apart_and_settled(node: &Node)
+pub fn neighbours_are_apart_and_sound(node: &Node)
     ensures { AreSoundNeighbours (node_state_of node.now).peers }
 {
-    neighbours::neighbours_are_apart_and_settled(&node.neighbours);
+    neighbours::neighbours_are_apart_and_sound(&node.neighbours);
 }
 
 /// What is told one neighbour leaves the others alone: each is what it was, and so is what came on the connections that
@@ -76,7 +76,7 @@ pub fn other_neighbours_are_left_alone()
     done_events_are_steps_or_drops();
     each_event_keeps_peers_settled();
     events_take_named_release_closed_connections();
-    given_up_is_closed_others_left_alone();
+    given_up_is_closed_unnamed_stays_unheld();
     connections_stay_until_closed();
 }
 
@@ -96,14 +96,14 @@ pub fn heard_pieces_are_told_as_kept_ones()
     ensures turn { NodeHeardAlike }
     ensures out { NodeHeardOut }
 {
-    frame_or_fault_excludes_others();
+    one_front_frame_or_lasting_fault();
 }
 
 /// Whatever cuts a stream, telling the pieces is a telling of the whole, whatever the policy.
 pub fn telling_pieces_tells_the_whole()
     ensures { NodeCutsAlike }
 {
-    frame_or_fault_excludes_others();
+    one_front_frame_or_lasting_fault();
 }
 
 /// However a stream is cut, what is told until nothing is left is the same: the turns, in order, of which neighbour
@@ -113,10 +113,10 @@ pub fn every_cut_tells_the_same()
     ensures cut { NodeCutsToldOut }
     ensures pieces { NodePiecesToldOut }
 {
-    frame_or_fault_excludes_others();
+    one_front_frame_or_lasting_fault();
     done_events_are_steps_or_drops();
     each_event_keeps_peers_settled();
-    given_up_is_closed_others_left_alone();
+    given_up_is_closed_unnamed_stays_unheld();
 }
 
 /// Nothing is told of a connection behind its Close or its end, whatever the policy.

@@ -15,7 +15,7 @@ use std::alloc::{AllocError, Global};
 
 /// A copy of the octets, where they are a CER or CEA and are told in a state that isn't open, and room for a neighbour
 /// more then; else no octets.
-pub(crate) fn copy_exchange_and_reserve_place(
+pub(crate) fn copy_and_reserve_if_exchange(
     alloc: Global,
     known: &mut Acquaintances,
     before: State,
@@ -37,7 +37,7 @@ pub(crate) fn copy_exchange_and_reserve_place(
 
 /// Changes what is known of the neighbour that was told what came on the connection: `who`, if one was. What is known
 /// of one that was open before stays.
-pub(crate) fn meet_if_opened_by_message(
+pub(crate) fn meet_or_set_waiting_cer(
     neighbours: &Neighbours,
     known: &mut Acquaintances,
     who: Option<usize>,
@@ -58,7 +58,7 @@ pub(crate) fn meet_if_opened_by_message(
     if let Some(index) = who {
         known.push_place_if_missing(index);
         if let Some(peer) = neighbours.peer(index) {
-            known.meet_if_opened_by_message(index, exchange, conn, before, peer);
+            known.meet_or_set_waiting_cer(index, exchange, conn, before, peer);
         }
     }
 }

@@ -17,7 +17,7 @@ ghost use Rattle.dm_node.specs.NodeSeen.{node_state_of, node_known_of};
 ghost use Rattle.dm_node.specs.NodeStates.{with_node_peers};
 
 use crate::acquaintances::Acquaintances;
-use crate::neighbours::{Neighbours, neighbours_are_apart_and_settled};
+use crate::neighbours::{Neighbours, neighbours_are_apart_and_sound};
 use crate::owners::Holding;
 use crate::{AddFault, Answer, Node};
 use dm_machine::Conn;
@@ -87,7 +87,7 @@ fn add_neighbour(
     ensures same { OnErr result (known_of known.new ≡ known_of known.old) }
 {
     match known.reserve_place() {
-        Ok(()) => match neighbours.add(config) {
+        Ok(()) => match neighbours.push_new_peer(config) {
             Ok(index) => {
                 known.push_place();
                 Ok(index)
@@ -133,7 +133,7 @@ impl Node {
         ensures without { node_state_of self.new ≡ node_without index (node_state_of self.old) }
         ensures forgotten { node_known_of self.new ≡ without_known (node_known_of self.old) index }
     {
-        neighbours_are_apart_and_settled(&self.neighbours);
+        neighbours_are_apart_and_sound(&self.neighbours);
         answer.clear();
         let held = self.neighbours.held_connections(index);
         let gone = self.neighbours.remove(index);
@@ -156,7 +156,7 @@ impl Node {
         ensures back { node_state_of self.new ≡ node_set_back index (node_state_of self.old) }
         ensures known { node_known_of self.new ≡ node_known_of self.old }
     {
-        neighbours_are_apart_and_settled(&self.neighbours);
+        neighbours_are_apart_and_sound(&self.neighbours);
         let held = self.neighbours.held_connections(index);
         self.neighbours.reset_neighbour(index);
         shut_held(&mut self.intakes, held);

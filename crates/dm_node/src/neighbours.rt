@@ -3,7 +3,7 @@ ghost use Rattle.dm_node.specs.Neighbourhoods.{IsNeighbourhood};
 ghost use Rattle.dm_node.specs.NodeHeld.{AreKept};
 
 use crate::AddFault;
-use crate::counting::{count_after_adding, count_after_removing};
+use crate::counting::{count_after_adding_one, count_after_removing};
 use crate::hosts::Hosts;
 use crate::owners::{Holding, Snapshot, held_connections_if_any};
 use crate::peer_by_number::peer_at;
@@ -11,7 +11,7 @@ use crate::removal_and_reset::{reset_all_peers, reset_one_peer, take_peer_out};
 use crate::reserved_place::reserve_place_and_note_new_host;
 use dm_peer::laws::{
     each_event_keeps_peers_settled, each_send_spells_a_message,
-    every_peer_is_settled_with_fitting_numbers,
+    peers_are_settled_with_encodable_numbers,
 };
 use dm_peer::{Config, Conn, Peer, State};
 use std::alloc::Global;
@@ -75,7 +75,7 @@ impl Neighbours {
     /// # Errors
     /// `Known` just where a neighbour has its host, upper and lower case taken as one, whatever memory there is; else
     /// `NoMemory`. The neighbours are as they were after each, and the peer is dropped.
-    pub(crate) fn insert_peer(&mut self, peer: Peer) -> Result<usize, AddFault>
+    pub(crate) fn push_peer(&mut self, peer: Peer) -> Result<usize, AddFault>
         requires { (c : Conn) (j : ℕ) → holds c peer ≡ true → holds_at self.old c j ≡ false }
         ensures number { IfOk result (λ i. i ≡ length self.old) }
         ensures added { OnOk result (self.new ≡ self.old ++ Some peer ∷ []) }
@@ -83,12 +83,12 @@ impl Neighbours {
         ensures refuses { IfErr result (λ f. (f ≡ Known) ⊎ (f ≡ NoMemory)) }
         ensures unchanged { OnErr result (self.new ≡ self.old) }
     {
-        every_peer_is_settled_with_fitting_numbers(&peer);
+        peers_are_settled_with_encodable_numbers(&peer);
         let index = self.peers.len();
         match reserve_place_and_note_new_host(&mut self.peers, &mut self.hosts, peer.config()) {
             Ok(()) => {
                 self.peers.push_reserved(Some(peer));
-                self.present = count_after_adding(&self.peers, self.present);
+                self.present = count_after_adding_one(&self.peers, self.present);
                 Ok(index)
             }
             Err(fault) => Err(fault),
@@ -98,15 +98,15 @@ impl Neighbours {
     /// Puts a closed peer of this configuration behind the others, and answers its number.
     ///
     /// # Errors
-    /// Those of [`insert_peer`](Neighbours::insert_peer).
-    pub(crate) fn add(&mut self, config: Config) -> Result<usize, AddFault>
+    /// Those of [`push_peer`](Neighbours::push_peer).
+    pub(crate) fn push_new_peer(&mut self, config: Config) -> Result<usize, AddFault>
         ensures number { IfOk result (λ i. i ≡ length self.old) }
         ensures added { OnOk result (self.new ≡ with_new self.old config) }
         ensures known { IsErrOf result Known ↔ IsKnown self.old config.peer }
         ensures refuses { IfErr result (λ f. (f ≡ Known) ⊎ (f ≡ NoMemory)) }
         ensures unchanged { OnErr result (self.new ≡ self.old) }
     {
-        self.insert_peer(Peer::new(config))
+        self.push_peer(Peer::new(config))
     }
 
     /// The number of the neighbour of this host, upper and lower case taken as one. It never answers want of memory.
@@ -226,7 +226,7 @@ impl Neighbours {
 
 /// No connection is held by two neighbours, no two have one host, upper and lower case taken as one, and each is what
 /// events make of a new peer; whatever the node was told.
-pub(crate) fn neighbours_are_apart_and_settled(neighbours: &Neighbours)
+pub(crate) fn neighbours_are_apart_and_sound(neighbours: &Neighbours)
     ensures apart { IsNeighbourhood neighbours.now }
     ensures kept { AreKept neighbours.now }
 {

@@ -15,7 +15,7 @@ ghost use Rattle.dm_peer.specs.declared.fault.PeerFault.TheVariants as peer_faul
 use crate::OrderFault;
 use crate::neighbours::Neighbours;
 use crate::stranger_events::StrangerActions;
-use dm_machine::laws::given_up_is_closed_others_left_alone;
+use dm_machine::laws::given_up_is_closed_unnamed_stays_unheld;
 use dm_peer::laws::done_events_are_steps_or_drops;
 use dm_peer::{Actions, Config, Conn, Event, Peer, PeerFault, State};
 use std::alloc::Global;
@@ -42,7 +42,7 @@ fn tell_newcomer(
     ensures memory { IfErr result (λ f. f ≡ peer_faults.NoMemory) }
 {
     done_events_are_steps_or_drops();
-    given_up_is_closed_others_left_alone();
+    given_up_is_closed_unnamed_stays_unheld();
     let mut peer = Peer::new(config);
     let _state = peer.state();
     match peer.on(alloc, Event::Arrived(conn, octets)) {
@@ -73,7 +73,7 @@ fn add_unless_closed(
             neighbour: None,
             actions,
         }),
-        _ => match neighbours.insert_peer(peer) {
+        _ => match neighbours.push_peer(peer) {
             Ok(index) => Ok(StrangerActions {
                 neighbour: Some(index),
                 actions,

@@ -5,8 +5,8 @@ ghost use Rattle.dm_node.specs.NodeHeld.{AllHeldAreThere};
 ghost use Rattle.dm_node.specs.NodeKnown.{known_of, AreKnown};
 
 use crate::acquaintances::Acquaintances;
+use crate::connection_of_open_peer::connection_of_open_peer;
 use crate::neighbours::Neighbours;
-use crate::open_connection::open_connection;
 use crate::settling::settle_connections;
 use crate::telling::{tell_event, tell_message};
 use crate::{Answer, NodeEvent, Strangers, Told};
@@ -115,7 +115,7 @@ impl Node {
             → is_open_at (node_state_of self.now).peers conn index ≡ false) }
     {
         match self.neighbours.peer(index) {
-            Some(peer) => open_connection(peer),
+            Some(peer) => connection_of_open_peer(peer),
             None => None,
         }
     }
@@ -146,14 +146,18 @@ impl Node {
     }
 
     /// The connection is there from now on.
-    pub(crate) fn open_unless_there(&mut self, alloc: Global, conn: Conn) -> Result<(), AllocError>
+    pub(crate) fn add_connection_unless_there(
+        &mut self,
+        alloc: Global,
+        conn: Conn,
+    ) -> Result<(), AllocError>
         ensures opened { OnOk result (node_state_of self.new ≡ node_opened conn (node_state_of self.old)) }
         ensures unchanged { OnErr result (node_state_of self.new ≡ node_state_of self.old) }
         ensures memory { OnErr result (is_there conn.0 (node_state_of self.old).intakes ≡ false) }
         ensures known { node_known_of self.new ≡ node_known_of self.old }
     {
         connections_stay_until_closed();
-        match self.intakes.open_unless_there(alloc, conn, self.first_max) {
+        match self.intakes.add_unless_there(alloc, conn, self.first_max) {
             Ok(()) => Ok(()),
             Err(error) => Err(error),
         }
@@ -183,8 +187,12 @@ impl Node {
     }
 
     /// Keeps of a piece that came on the connection what its first message wants, and answers how many octets were
-    /// taken.
-    pub(crate) fn keep_front(&mut self, conn: Conn, piece: &[u8]) -> Result<usize, AllocError>
+    /// taken. Behind a fault, and on a connection that isn't there, none are kept and all are taken.
+    pub(crate) fn keep_front_or_discard(
+        &mut self,
+        conn: Conn,
+        piece: &[u8],
+    ) -> Result<usize, AllocError>
         ensures fed { IfOk result (λ size.
             node_state_of self.new ≡ node_fed conn (take size piece.now) (node_state_of self.old)) }
         ensures taken { IfOk result (TakesFrontAt ((node_state_of self.old).intakes conn.0) piece.now) }
@@ -206,8 +214,8 @@ impl Node {
         self.intakes.take_back(conn, size);
     }
 
-    /// Tells the fault that stands at the front of the connection's stream, and throws away what came.
-    fn tell_fault<S: Strangers>(
+    /// Tells the fault that stands at the front of the connection's stream, and throws away what came and what comes.
+    fn tell_fault_and_discard_rest<S: Strangers>(
         &mut self,
         alloc: Global,
         strangers: &S,
@@ -334,7 +342,7 @@ impl Node {
                     Err(error)
                 }
             },
-            Front::Fault => self.tell_fault(alloc, strangers, conn, answer),
+            Front::Fault => self.tell_fault_and_discard_rest(alloc, strangers, conn, answer),
         }
     }
 }

@@ -14,10 +14,10 @@ ghost use Rattle.dm_peer.specs.declared.fault.PeerFault.{PeerFault};
 ghost use Rattle.dm_peer.specs.declared.fault.PeerFault.TheVariants as peer_faults;
 
 use crate::events::peer_event;
-use crate::neighbours::{Neighbours, neighbours_are_apart_and_settled};
+use crate::neighbours::{Neighbours, neighbours_are_apart_and_sound};
 use crate::{Answer, NodeEvent, OrderFault};
-use dm_machine::laws::given_up_is_closed_others_left_alone;
-use dm_peer::laws::{done_events_are_steps_or_drops, every_peer_is_settled_with_fitting_numbers};
+use dm_machine::laws::given_up_is_closed_unnamed_stays_unheld;
+use dm_peer::laws::{done_events_are_steps_or_drops, peers_are_settled_with_encodable_numbers};
 use dm_peer::{Actions, Event, Peer, PeerFault};
 use std::alloc::Global;
 
@@ -47,12 +47,12 @@ fn tell_peer_at(
         → IsRoster peers.new.items hosts count }
 {
     done_events_are_steps_or_drops();
-    given_up_is_closed_others_left_alone();
+    given_up_is_closed_unnamed_stays_unheld();
     match &mut peers[index] {
         Some(peer) => {
             let _state = peer.state();
             let done = peer.on_into(alloc, event, actions);
-            every_peer_is_settled_with_fitting_numbers(peer);
+            peers_are_settled_with_encodable_numbers(peer);
             done
         }
         None => unreachable!(),
@@ -92,7 +92,7 @@ pub(crate) fn tell_one_neighbour(
         told,
         &mut answer.actions,
     );
-    neighbours_are_apart_and_settled(neighbours);
+    neighbours_are_apart_and_sound(neighbours);
     match done {
         Ok(()) => {
             answer.neighbour = Some(index);

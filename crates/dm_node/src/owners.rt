@@ -11,7 +11,7 @@ ghost use Rattle.dm_slots.specs.Intakes.{is_there};
 ghost use Rattle.dm_peer.specs.declared.peer.Peer.{Peer};
 ghost use Rattle.dm_slots.specs.Raised.{own_of, other_of};
 
-use dm_machine::laws::shaped_nodes_have_eight_forms;
+use dm_machine::laws::shaped_cores_have_eight_forms;
 use dm_peer::{Conn, Peer, State};
 use dm_slots::Slots;
 
@@ -53,7 +53,7 @@ fn held_connections_of(peer: &Peer) -> Holding
     ensures accepted { result.accepted ≡ other_of peer.now }
     ensures holds { (c : Conn) → has result c ≡ holds c peer.now }
 {
-    shaped_nodes_have_eight_forms();
+    shaped_cores_have_eight_forms();
     let _state = peer.state();
     Holding {
         initiated: peer.initiated(),

@@ -10,7 +10,7 @@ ghost use Rattle.dm_slots.specs.Held.{intakes_of, owners_of};
 ghost use Rattle.dm_slots.specs.Intakes.{actions_close, left_by};
 
 use crate::Answer;
-use crate::neighbours::{Neighbours, neighbours_are_apart_and_settled};
+use crate::neighbours::{Neighbours, neighbours_are_apart_and_sound};
 use crate::owners::{Holding, update_owners};
 use dm_slots::Slots;
 use dm_slots::laws::connections_stay_until_closed;
@@ -34,7 +34,7 @@ pub(crate) fn settle_connections(
         → AreOwned (owners_of slots.old) ps → AreOwned (owners_of slots.new) neighbours.now }
 {
     connections_stay_until_closed();
-    neighbours_are_apart_and_settled(neighbours);
+    neighbours_are_apart_and_sound(neighbours);
     let after = neighbours.snapshot(answer.neighbour);
     update_owners(slots, before, after.held, answer.neighbour);
     slots.shut_connections_closed_by(answer.actions.as_slice());

@@ -22,7 +22,7 @@ ghost use Rattle.std.specs.Option.{option_map};
 ghost use Rattle.dm_node.specs.NodeSeen.{node_state_of, node_known_of};
 ghost use Rattle.dm_node.specs.Answers.{IsUntold, asks_of};
 
-use crate::neighbours::neighbours_are_apart_and_settled;
+use crate::neighbours::neighbours_are_apart_and_sound;
 use crate::settling::settle_connections;
 use crate::telling::tell_event;
 use crate::{Answer, Node, NodeEvent, Order, OrderFault, Told};
@@ -122,11 +122,11 @@ impl Node {
     {
         match order {
             Order::Start(index, conn) => {
-                self.open_and_start_unless_there(alloc, index, conn, answer)
+                self.add_and_start_unless_there(alloc, index, conn, answer)
             }
             Order::Ack(conn) => self.tell_event_if_there(alloc, conn, NodeEvent::Ack(conn), answer),
             Order::Nack(conn) => self.tell_nack_and_shut_unheld(alloc, conn, answer),
-            Order::Accept(conn) => match self.open_unless_there(alloc, conn) {
+            Order::Accept(conn) => match self.add_connection_unless_there(alloc, conn) {
                 Ok(()) => Ok(()),
                 Err(_) => Err(OrderFault::Peer(PeerFault::NoMemory)),
             },
@@ -302,7 +302,7 @@ impl Node {
         ensures spelled { OnOk result (All SendsSpelling answer.new.actions.items) }
     {
         events_take_named_release_closed_connections();
-        neighbours_are_apart_and_settled(&self.neighbours);
+        neighbours_are_apart_and_sound(&self.neighbours);
         match self.tell_event_if_there(alloc, conn, NodeEvent::Gone(conn), answer) {
             Ok(()) => {
                 self.shut(conn);
@@ -321,7 +321,7 @@ impl Node {
         ensures none { IfNone result (IsUnruled no_strangers (node_state_of self.now).peers (Start index conn)) }
     {
         event_refusals_go_by_rule();
-        neighbours_are_apart_and_settled(&self.neighbours);
+        neighbours_are_apart_and_sound(&self.neighbours);
         match self.neighbours.peer(index) {
             Some(peer) => peer_start_fault(peer),
             None => Some(OrderFault::NoNeighbour),
@@ -330,7 +330,7 @@ impl Node {
 
     /// Tells a Start of the connection to the neighbour of the number, and the connection is there from then on. Where
     /// it is there already nothing is told, and that is no fault.
-    fn open_and_start_unless_there(
+    fn add_and_start_unless_there(
         &mut self,
         alloc: Global,
         index: usize,
@@ -360,7 +360,7 @@ impl Node {
         if let Some(fault) = self.neighbour_start_fault(index, conn) {
             return Err(fault);
         }
-        match self.open_unless_there(alloc, conn) {
+        match self.add_connection_unless_there(alloc, conn) {
             Ok(()) => match self.tell_order_event(alloc, NodeEvent::Start(index, conn), answer) {
                 Ok(()) => Ok(()),
                 Err(fault) => {

@@ -18,18 +18,18 @@ ghost use Rattle.dm_slots.specs.Intakes.{Intakes as AllIntakes, actions_close};
 ghost use Rattle.dm_slots.specs.Naming.{NamesThere};
 
 use crate::acquaintances::Acquaintances;
+use crate::concerned_neighbour::concerned_neighbour;
 use crate::meeting::{
-    copy_exchange_and_reserve_place, meet_if_opened_by_event, meet_if_opened_by_message,
+    copy_and_reserve_if_exchange, meet_if_opened_by_event, meet_or_set_waiting_cer,
 };
-use crate::neighbours::{Neighbours, neighbours_are_apart_and_settled};
+use crate::neighbours::{Neighbours, neighbours_are_apart_and_sound};
 use crate::one_told::tell_one_neighbour;
 use crate::owners::Holding;
-use crate::routing::concerned_neighbour;
 use crate::stranger_events::handle_stranger_event;
 use crate::{Answer, NodeEvent, OrderFault, Strangers};
 use dm_base::Node;
 use dm_machine::Conn;
-use dm_machine::laws::given_up_is_closed_others_left_alone;
+use dm_machine::laws::given_up_is_closed_unnamed_stays_unheld;
 use dm_peer::laws::{
     done_events_are_steps_or_drops, each_event_keeps_peers_settled, event_refusals_go_by_rule,
     events_take_named_release_closed_connections,
@@ -58,7 +58,7 @@ fn tell_one_or_handle_stranger<S: Strangers>(
     ensures unchanged { OnErr result (neighbours.new ≡ neighbours.old) }
     ensures spelled { OnOk result (All SendsSpelling answer.new.actions.items) }
 {
-    neighbours_are_apart_and_settled(neighbours);
+    neighbours_are_apart_and_sound(neighbours);
     match who {
         Some(index) => tell_one_neighbour(alloc, neighbours, index, event, answer),
         None => handle_stranger_event(alloc, own, neighbours, strangers, event, answer),
@@ -98,9 +98,9 @@ fn tell_neighbour_or_handle_stranger<S: Strangers>(
     done_events_are_steps_or_drops();
     each_event_keeps_peers_settled();
     events_take_named_release_closed_connections();
-    given_up_is_closed_others_left_alone();
+    given_up_is_closed_unnamed_stays_unheld();
     event_refusals_go_by_rule();
-    neighbours_are_apart_and_settled(neighbours);
+    neighbours_are_apart_and_sound(neighbours);
     match tell_one_or_handle_stranger(alloc, own, neighbours, strangers, who, event, answer) {
         Ok(()) => Ok(()),
         Err(fault) => Err(fault),
@@ -140,20 +140,20 @@ pub(crate) fn tell_message<S: Strangers>(
     ensures unchanged { OnErr result (neighbours.new ≡ neighbours.old) }
     ensures same { OnErr result (known_of known.new ≡ known_of known.old) }
 {
-    neighbours_are_apart_and_settled(neighbours);
+    neighbours_are_apart_and_sound(neighbours);
     let event = NodeEvent::Arrived(conn, octets);
     let who = match concerned_neighbour(neighbours, slots, strangers, event) {
         Ok(who) => who,
         Err(_) => unreachable!(),
     };
     let before = neighbours.snapshot(who);
-    let exchange = match copy_exchange_and_reserve_place(alloc, known, before.state, octets) {
+    let exchange = match copy_and_reserve_if_exchange(alloc, known, before.state, octets) {
         Ok(exchange) => exchange,
         Err(error) => return Err(error),
     };
     match tell_neighbour_or_handle_stranger(alloc, own, neighbours, strangers, who, event, answer) {
         Ok(()) => {
-            meet_if_opened_by_message(
+            meet_or_set_waiting_cer(
                 neighbours,
                 known,
                 answer.neighbour,
@@ -207,7 +207,7 @@ pub(crate) fn tell_event<S: Strangers>(
     ensures same { OnErr result (known_of known.new ≡ known_of known.old) }
 {
     event_refusals_go_by_rule();
-    neighbours_are_apart_and_settled(neighbours);
+    neighbours_are_apart_and_sound(neighbours);
     let who = match concerned_neighbour(neighbours, slots, strangers, event) {
         Ok(who) => who,
         Err(fault) => return Err(fault),

@@ -17,7 +17,7 @@ use dm_base::laws::{
 use dm_machine::laws::{
     connection_changes_and_orders_are_allowed, connection_orders_are_its_commands,
     few_steps_stand_for_all, messages_do_the_same_where_unread,
-    open_connections_carry_user_messages, shaped_nodes_have_eight_forms,
+    one_open_connection_carries_user_messages, shaped_cores_have_eight_forms,
     steps_keep_shape_in_few_commands,
 };
 use dm_peer::laws::{
@@ -172,7 +172,7 @@ pub fn ceas_and_dpas_match_their_requests()
     canonical_octets_spell_message();
     connection_changes_and_orders_are_allowed();
     events_are_steps_drops_or_refusals();
-    shaped_nodes_have_eight_forms();
+    shaped_cores_have_eight_forms();
     connection_orders_are_its_commands();
     few_steps_stand_for_all();
     steps_keep_shape_in_few_commands();
@@ -200,9 +200,9 @@ pub fn octet_peers_carry_user_messages()
     ensures { OctetsCarry }
 {
     connection_changes_and_orders_are_allowed();
-    shaped_nodes_have_eight_forms();
+    shaped_cores_have_eight_forms();
     few_steps_stand_for_all();
-    open_connections_carry_user_messages();
+    one_open_connection_carries_user_messages();
 }
 
 /// After every list of happenings of two new peers, losses and restarts too and whatever their configurations, what a

@@ -8,7 +8,7 @@ ghost use Rattle.dm_peer.specs.Places.{is_on, before_ack, footing_of, has_made};
 
 use crate::standing::Awaited;
 use dm_base::is_base_command;
-use dm_machine::laws::shaped_nodes_have_eight_forms;
+use dm_machine::laws::shaped_cores_have_eight_forms;
 use dm_machine::{Conn, Core, State};
 use dm_wire::Header;
 
@@ -47,7 +47,7 @@ fn awaits_conn_ack(state: State) -> bool
 pub(crate) fn connection_footing(core: &Core, conn: Conn) -> Footing
     ensures { result ≡ footing_of (hold_of core.now conn) }
 {
-    shaped_nodes_have_eight_forms();
+    shaped_cores_have_eight_forms();
     let state = core.state();
     if is_held_connection(core.initiated(), conn) {
         if awaits_conn_ack(state) {

@@ -1,5 +1,5 @@
-//! What a peer is told: commands of its user, the passing of time, and what happens on connections; and the range of
-//! octets that it is told.
+//! What a peer is told: commands of its user, the passing of time, and what happens on connections; and that each octet
+//! that it is told is below 256.
 ghost use Rattle.dm_peer.specs.Events.{event_told, octets_in};
 ghost use Rattle.dm_wire.specs.Octets.{AreOctets};
 
@@ -30,18 +30,18 @@ pub enum Event<'a> {
 }
 
 /// Does nothing: its contract says that each number of a slice of octets is below 256.
-fn octets_are_in_range(octets: &[u8])
+fn octets_are_below_256(octets: &[u8])
     ensures { AreOctets octets.now }
 {
     let _octets = octets.len();
 }
 
 /// Does nothing: its contract says that each number of the octets that an event brings is below 256.
-pub(crate) fn event_octets_are_in_range(event: Event<'_>)
+pub(crate) fn event_octets_are_below_256(event: Event<'_>)
     ensures { AreOctets (octets_in (event_told event.entry)) }
 {
     match event {
-        Event::Arrived(_, octets) | Event::Submit(octets) => octets_are_in_range(octets),
+        Event::Arrived(_, octets) | Event::Submit(octets) => octets_are_below_256(octets),
         _ => {}
     }
 }

@@ -7,7 +7,7 @@ ghost use Rattle.dm_peer.specs.Events.{Arrived, event_told};
 ghost use Rattle.dm_peer.specs.Spelled.{SendsSpelling};
 ghost use Rattle.dm_peer.specs.Strangers.{AreStrange, TurnsAway};
 
-use crate::events::event_octets_are_in_range;
+use crate::events::event_octets_are_below_256;
 use crate::laws::{
     each_event_keeps_peers_settled, each_send_spells_a_message, strangers_change_nothing,
 };
@@ -29,7 +29,7 @@ pub(crate) fn kept_standing(
 {
     each_event_keeps_peers_settled();
     each_send_spells_a_message();
-    event_octets_are_in_range(event);
+    event_octets_are_below_256(event);
     let _kept = peer.standing.get();
     Kept::new(standing)
 }
@@ -53,7 +53,7 @@ pub(crate) fn handle_event_of_kept_peer(
 {
     each_send_spells_a_message();
     strangers_change_nothing();
-    event_octets_are_in_range(event);
+    event_octets_are_below_256(event);
     let _kept = peer.standing.get();
     handle_event(alloc, peer, event, actions)
 }

@@ -28,8 +28,9 @@ use dm_base::laws::{
 };
 use dm_machine::laws::{
     connection_changes_and_orders_are_allowed, each_state_decides_refusals_and_elections,
-    few_steps_stand_for_all, given_up_is_closed_others_left_alone,
-    messages_do_the_same_where_unread, steps_keep_shape_in_few_commands, strangers_are_turned_away,
+    few_steps_stand_for_all, given_up_is_closed_unnamed_stays_unheld,
+    messages_do_the_same_where_unread, only_good_cers_admit_strangers,
+    steps_keep_shape_in_few_commands,
 };
 use dm_wire::laws::{
     canonical_octets_spell_message, message_in_octets_is_what_they_spell, spelled_message_is_found,
@@ -62,7 +63,7 @@ pub fn each_event_keeps_peers_settled()
 
 /// What every peer holds, whatever it was told: what it waits for goes by its state, and its numbers fit their fields.
 /// The law stands for users, as the premise of the others.
-pub fn every_peer_is_settled_with_fitting_numbers(peer: &Peer)
+pub fn peers_are_settled_with_encodable_numbers(peer: &Peer)
     ensures { IsKept peer.now }
 {
     let _kept = peer.standing.get();
@@ -78,7 +79,7 @@ pub fn events_take_named_release_closed_connections()
 {
     done_events_are_steps_or_drops();
     connection_changes_and_orders_are_allowed();
-    given_up_is_closed_others_left_alone();
+    given_up_is_closed_unnamed_stays_unheld();
 }
 
 /// At a Start, at a Timeout, where octets aren't looked at, and where an answer is dropped, nothing is sent or handed
@@ -96,7 +97,7 @@ pub fn starts_timeouts_drops_take_no_memory()
 pub fn strangers_change_nothing()
     ensures { StrangersChangeNothing }
 {
-    strangers_are_turned_away();
+    only_good_cers_admit_strangers();
 }
 
 /// But for want of memory, an event is refused just by these rules: a Start outside Closed, a Stop or Submit outside

@@ -23,12 +23,12 @@ use crate::laws::{event_refusals_go_by_rule, starts_timeouts_drops_take_no_memor
 use crate::standing::Kept;
 use crate::{Actions, Config, Event, PeerFault};
 use arrayvec::ArrayVec;
-use dm_machine::laws::shaped_nodes_have_eight_forms;
+use dm_machine::laws::shaped_cores_have_eight_forms;
 use dm_machine::{Conn, State};
 use std::alloc::Global;
 
 /// A peer: its configuration, and where it stands (RFC 6733, 5.6). What holds of each is said by
-/// `laws::every_peer_is_settled_with_fitting_numbers`.
+/// `laws::peers_are_settled_with_encodable_numbers`.
 #[derive(Debug, Drop)]
 pub struct Peer {
     pub(crate) config: Config,
@@ -155,7 +155,7 @@ impl Peer {
     pub fn holds(&self, conn: Conn) -> bool
         ensures { result ≡ holds conn self.now }
     {
-        shaped_nodes_have_eight_forms();
+        shaped_cores_have_eight_forms();
         let _shaped = self.state();
         is_held_connection(self.initiated(), conn) || is_held_connection(self.accepted(), conn)
     }

@@ -50,7 +50,7 @@ fn call_with_nth_refused<M: Making>(alloc: Global, making: &M, nth: u32) -> End 
 
 /// The first request of a call that makes something is refused, then the second, and so on, until it doesn't end
 /// `Again`: the number of the last, and how the call ended then. It is `Whole` where all is well.
-pub fn refuse_requests_until_made_whole<M: Making>(alloc: Global, making: &M) -> (u32, End) {
+pub fn refuse_making_until_not_again<M: Making>(alloc: Global, making: &M) -> (u32, End) {
     for nth in 1..MOST {
         let end = call_with_nth_refused(alloc, making, nth);
         if end != End::Again {

@@ -26,9 +26,14 @@ fn try_allocate(alloc: Global, size: usize) -> bool {
     block.is_ok()
 }
 
-/// The nth request from here on is refused; at 0 none is.
+/// The nth request from here on, counted from 1, is refused; at 0 none is.
 pub fn refuse_nth_request(alloc: Global, nth: u32) {
     try_allocate(alloc, ORDER | (nth as usize));
+}
+
+/// No request from here on is refused.
+pub fn stop_refusing(alloc: Global) {
+    refuse_nth_request(alloc, 0);
 }
 
 /// Each request from here on is refused.
@@ -39,14 +44,14 @@ pub fn refuse_each_request(alloc: Global) {
 /// Whether a request was refused since the last order. This is an order too: none is refused from here on.
 pub fn was_request_refused_and_stop(alloc: Global) -> bool {
     let refused = try_allocate(alloc, REFUSED);
-    refuse_nth_request(alloc, 0);
+    stop_refusing(alloc);
     refused
 }
 
 /// Whether a request was made since the last order, refused or not. This is an order too: none is refused from here on.
 pub fn was_request_made_and_stop(alloc: Global) -> bool {
     let asked = try_allocate(alloc, ASKED);
-    refuse_nth_request(alloc, 0);
+    stop_refusing(alloc);
     asked
 }
 

@@ -12,7 +12,7 @@ pub trait Subject<R> {
 
 /// The first request of the call is refused, then the second, and so on, until it doesn't end `Again`: the number of
 /// the last, and how the call ended then. It is `Whole` where all is well.
-pub fn refuse_requests_until_whole<R, S: Subject<R>>(rt: &R, subject: &S) -> (u32, End) {
+pub fn refuse_in_turn_until_not_again<R, S: Subject<R>>(rt: &R, subject: &S) -> (u32, End) {
     for nth in 1..MOST {
         let end = subject.end_when_refused(rt, nth);
         if end != End::Again {

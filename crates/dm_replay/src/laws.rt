@@ -15,8 +15,8 @@ pub fn one_script_or_bad_line_at_most()
     joined_lines_have_joined_content();
 }
 
-/// Each text stands for nothing, is a script, or has a first bad line.
-pub fn each_text_is_nothing_script_or_bad()
+/// Each text is a script, has a first bad line, or stands for nothing: every line is empty or a comment.
+pub fn each_text_is_script_bad_or_comments()
     ensures { SomeScript }
 {
     joined_lines_have_joined_content();
@@ -36,5 +36,5 @@ pub fn each_text_has_a_replay()
     ensures read { SomeRead }
     ensures replay { SomeReplay }
 {
-    each_text_is_nothing_script_or_bad();
+    each_text_is_script_bad_or_comments();
 }

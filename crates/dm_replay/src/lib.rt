@@ -21,5 +21,5 @@ pub use crate::host_line::HostLine;
 pub use crate::replay::replay_text;
 pub use crate::replay_lines::trace;
 pub use crate::script::{Script, read_script};
-pub use crate::script_lines::{ScriptLines, read_script_lines};
+pub use crate::script_lines::{ScriptLines, read_script_lines_if_any};
 pub use dm_world::{Happening, Side};

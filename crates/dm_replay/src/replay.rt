@@ -8,12 +8,12 @@ use crate::fault::ScriptFault;
 use crate::replay_lines::{push_end_line, push_nolink_line, push_trace_line};
 use crate::script::{Script, read_script};
 use dm_dict::NoMemory;
-use dm_text::push_syntax_fault_of_line;
+use dm_text::push_syntax_fault_line;
 use dm_world::{Happening, NewFault, World, WorldFault};
 use std::alloc::Global;
 
 /// The text of a replay: of each happening of the script that the text is, what became of it, and what stands at the
-/// end. And whether all of it was good.
+/// end. And whether all of it was good, though the peers may disagree.
 ///
 /// The script is read whole before its first happening. A text that is no script, or whose peers have no application in
 /// common, has its fault as text alone. A happening that names a link that isn't there ends the run.
@@ -86,7 +86,7 @@ fn fault_text(alloc: Global, fault: ScriptFault) -> Result<(Vec<u8>, bool), NoMe
 {
     let mut text = Vec::new(alloc);
     match fault {
-        ScriptFault::Syntax(line) => push_syntax_fault_of_line(&mut text, line as u64)?,
+        ScriptFault::Syntax(line) => push_syntax_fault_line(&mut text, line as u64)?,
         ScriptFault::SameHost => text.extend_from_slice(b"fault SameHost\n")?,
         ScriptFault::NoMemory => return Err(NoMemory),
     }

@@ -82,8 +82,8 @@ fn push_state_and_connections(text: &mut Vec<u8>, peer: &Peer) -> Result<(), All
     ensures { OnOk result (text.new.items ≡ text.old.items ++ node_text peer.now.standing.core) }
 {
     text.extend_from_slice(state_name(peer.state()))?;
-    push_held_connection(text, b" i", peer.initiated())?;
-    push_held_connection(text, b" r", peer.accepted())?;
+    push_connection_if_held(text, b" i", peer.initiated())?;
+    push_connection_if_held(text, b" r", peer.accepted())?;
     Ok(())
 }
 
@@ -95,7 +95,7 @@ fn state_name(state: State) -> &'static [u8]
 }
 
 /// Appends the connection behind its letter; nothing where none is held.
-fn push_held_connection(
+fn push_connection_if_held(
     text: &mut Vec<u8>,
     letter: &[u8],
     held: Option<Conn>,

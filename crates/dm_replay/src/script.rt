@@ -11,7 +11,7 @@ use crate::configs::{config_of_hosts, config_with_dictionary_of};
 use crate::fault::ScriptFault;
 use crate::happening_list::HappeningList;
 use crate::laws::one_reading_and_replay_at_most;
-use crate::script_lines::{ScriptLines, read_script_lines};
+use crate::script_lines::{ScriptLines, read_script_lines_if_any};
 use dm_peer::{Config, is_same_host};
 use std::alloc::{AllocError, Global};
 
@@ -41,11 +41,12 @@ pub fn read_script(alloc: Global, text: &[u8]) -> Result<Option<Script>, ScriptF
     read_script_by_lines(alloc, text)
 }
 
-/// What the text is read as: its lines are read, and then the script is made of them.
+/// What the text is read as: its lines are read, and then the script is made of them. None where every line is empty or
+/// a comment.
 fn read_script_by_lines(alloc: Global, text: &[u8]) -> Result<Option<Script>, ScriptFault>
     ensures { (result ≡ Err ScriptFault.NoMemory) ⊎ IsReading text.now result }
 {
-    match read_script_lines(alloc, text)? {
+    match read_script_lines_if_any(alloc, text)? {
         Some(lines) => {
             if is_same_host(lines.left.host, lines.right.host) {
                 return Err(ScriptFault::SameHost);

@@ -9,7 +9,7 @@ use crate::fault::ScriptFault;
 use crate::host_line::HostLine;
 use crate::lines_so_far::{LinesSoFar, NamedPeers};
 use dm_text::Lines;
-use dm_text::laws::{joined_lines_have_joined_content, octet_count_bounds_line_count};
+use dm_text::laws::{joined_lines_have_joined_content, lines_exceed_octets_by_one_at_most};
 use dm_world::Happening;
 use std::alloc::Global;
 
@@ -28,14 +28,17 @@ pub struct ScriptLines<'a> {
 ///
 /// The first line that may not stand where it does is answered as `Syntax` with its number, from 1. A text that ends
 /// behind the line of its first peer has that fault at its last line.
-pub fn read_script_lines(alloc: Global, text: &[u8]) -> Result<Option<ScriptLines<'_>>, ScriptFault>
+pub fn read_script_lines_if_any(
+    alloc: Global,
+    text: &[u8],
+) -> Result<Option<ScriptLines<'_>>, ScriptFault>
     ensures none { IfOk result (λ read. IfNone read (content_lines text.now ≡ [])) }
     ensures told { IfOk result (λ read. IfSome read (λ s.
         TellsScript (line_host s.left) (line_host s.right) s.list.items text.now)) }
     ensures fault { IfErr result (λ f. (f ≡ NoMemory) ⊎ ((n : ℕ) × (f ≡ Syntax n) × IsFirstBad text.now n)) }
 {
     joined_lines_have_joined_content();
-    octet_count_bounds_line_count();
+    lines_exceed_octets_by_one_at_most();
     let mut so_far = LinesSoFar::new(alloc);
     let mut count = 0;
     for line in Lines::new(text) {

@@ -100,3 +100,9 @@ raised_before_at c d max i f there is false e = refl
 pub raised_before : (c : Conn) (max : ℕ) (i : Intake) (f : Intakes) → f c.0 ≡ Some i → i.max ≡ max
     → raised_at max (Some c) f ≡ f
 raised_before c max i f there is = fun_ext (λ d. raised_before_at c.0 d max i f there is (nat_eq c.0 d) refl)
+
+-- a connection that gets what it has
+pub kept_at : (c d : ℕ) (i : Intake) (f : Intakes) → Some i ≡ f c → (b : Bool) → nat_eq c d ≡ b
+    → cond b (Some i) (f d) ≡ f d
+kept_at c d i f there true e = there ∙ ap f (eqb-true c d e)
+kept_at c d i f there false e = refl

@@ -139,7 +139,13 @@ impl Acquaintance {
     }
 
     /// What is known behind a CER or CEA of the connection, which was told in this state, that isn't open.
-    fn meet_or_set_waiting_cer(&mut self, exchange: Octets, conn: Conn, before: State, peer: &Peer)
+    fn meet_by_exchange_or_set_waiting(
+        &mut self,
+        exchange: Octets,
+        conn: Conn,
+        before: State,
+        peer: &Peer,
+    )
         ensures { self.new ≡ known_by conn before peer.now exchange self.old }
     {
         if peer.is_open() {
@@ -164,7 +170,7 @@ impl Acquaintance {
     /// state that isn't open `exchange` is a copy, else no octets. Where the peer wasn't open and is, it was opened by
     /// that message, if it holds the connection, and else by the CER that waited, as where an election is over (RFC
     /// 6733, 5.6.4); and where a CER waits and none did before, it is this one. It never answers want of memory.
-    pub fn meet_if_opened_by_message(
+    pub fn meet_or_set_waiting_cer(
         &mut self,
         exchange: Octets,
         conn: Conn,
@@ -176,7 +182,7 @@ impl Acquaintance {
         if exchange.is_empty() {
             self.meet_if_opened_by_event(before, peer);
         } else {
-            self.meet_or_set_waiting_cer(exchange, conn, before, peer);
+            self.meet_by_exchange_or_set_waiting(exchange, conn, before, peer);
         }
     }
 }

@@ -1,5 +1,6 @@
 //! What came on a connection and wasn't told yet.
 ghost use Rattle.std.specs.Prelude.{◌≡◌, ◌≤◌, ℕ, false, List, length, take, drop, IfSome, IfNone, IfOk, OnOk, OnErr};
+ghost use Rattle.dm_framer.specs.Frames.{BeginsWithNoFrame};
 ghost use Rattle.dm_slots.specs.Intakes.{new_intake, fed_intake, unfed_intake, broken_intake, with_max, IsFirst};
 ghost use Rattle.dm_slots.specs.Fronts.{IsFront};
 ghost use Rattle.dm_slots.specs.Hearing.{IsWholeIn, IsNotWhole, TakesFront};
@@ -121,8 +122,10 @@ impl Intake {
 
     /// Lets the front message go. It never answers want of memory.
     pub(crate) fn skip_front_message(&mut self)
-        ensures { (message rest : List ℕ) → IsFirst self.old message rest
+        ensures skipped { (message rest : List ℕ) → IsFirst self.old message rest
             → self.new ≡ record self.old { octets = rest } }
+        // Where none stands at the front nothing changes.
+        ensures none { BeginsWithNoFrame self.old.max self.old.octets → self.new ≡ self.old }
     {
         self.framer.skip();
     }

@@ -3,7 +3,7 @@ ghost use Rattle.dm_slots.specs.Staying.{OpeningKeeps, ChangingKeeps, TellingKee
 ghost use Rattle.dm_slots.specs.Staying.{ClosingKeeps, ShuttingKeeps, TakingBackUndoes};
 ghost use Rattle.dm_slots.specs.Hearing.{WholeIsTaken};
 
-use dm_framer::laws::frame_or_fault_excludes_others;
+use dm_framer::laws::one_front_frame_or_lasting_fault;
 
 /// A connection that is there stays there, whatever is done with what came, but where it is closed or shut. The law
 /// stands for users: who keeps [`Slots`](crate::Slots) beside peers of his own knows by it that what these hold is
@@ -26,5 +26,5 @@ pub fn taking_back_undoes_feeding()
 pub fn feed_front_takes_whole_message_len()
     ensures { WholeIsTaken }
 {
-    frame_or_fault_excludes_others();
+    one_front_frame_or_lasting_fault();
 }

@@ -2,6 +2,7 @@
 ghost use Rattle.std.specs.Prelude.{◌≡◌, ◌∷◌, [], ℕ, true, false, List, Some, IfSome, IfNone, IfOk, cond, take};
 ghost use Rattle.std.specs.Prelude.{OnOk, OnErr};
 ghost use Rattle.std.specs.Option.{option_copied, option_map};
+ghost use Rattle.dm_framer.specs.Frames.{BeginsWithNoFrame};
 ghost use Rattle.dm_slots.specs.Intakes.{none_there, is_there, opened, taken_down, changed, raised_at, left_by};
 ghost use Rattle.dm_slots.specs.Intakes.{fed_intake, unfed_intake, broken_intake, with_intake, IsFirst};
 ghost use Rattle.dm_slots.specs.Intakes.{Intake as OneIntake};
@@ -135,7 +136,7 @@ impl Slots {
     }
 
     /// The connection is there: as it was, or, if it wasn't, as a new one for messages of at most `max` octets.
-    pub fn open_unless_there(
+    pub fn add_unless_there(
         &mut self,
         alloc: Global,
         conn: Conn,
@@ -224,6 +225,9 @@ impl Slots {
         ensures skipped { (intake : OneIntake) (message rest : List ℕ) → intakes_of self.old conn.0 ≡ Some intake
             → IsFirst intake message rest
             → intakes_of self.new ≡ with_intake conn.0 (Some (record intake { octets = rest })) (intakes_of self.old) }
+        // Where none stands at its front, or the connection isn't there, nothing changes.
+        ensures none { IfSome (intakes_of self.old conn.0) (λ i. BeginsWithNoFrame i.max i.octets)
+            → intakes_of self.new ≡ intakes_of self.old }
         ensures owners { owners_of self.new ≡ owners_of self.old }
     {
         if let Some(slot) = self.map.get_mut(&conn.0) {

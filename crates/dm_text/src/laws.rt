@@ -30,6 +30,6 @@ pub fn joined_lines_have_joined_content()
 {}
 
 /// A text has at most as many lines as octets, and one.
-pub fn octet_count_bounds_line_count()
+pub fn lines_exceed_octets_by_one_at_most()
     ensures { LinesAreFew }
 {}

@@ -17,5 +17,5 @@ pub use crate::hexadecimal::{Hexadecimal, push_hexadecimal, put_hexadecimal, rea
 pub use crate::line::{Lines, first_line_feed, is_empty_or_comment, trim_spaces};
 pub use crate::line_room::LineRoom;
 pub use crate::number::{read_long_number, read_number};
-pub use crate::syntax_fault::push_syntax_fault_of_line;
+pub use crate::syntax_fault::push_syntax_fault_line;
 pub use crate::word::Words;

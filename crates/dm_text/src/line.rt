@@ -100,8 +100,8 @@ pub fn without_leading_spaces(line: &[u8]) -> &[u8]
 }
 
 /// Whether a trimmed line is empty or a comment.
-pub fn is_empty_or_comment(line: &[u8]) -> bool
-    ensures { result ≡ is_skipped line.now }
+pub fn is_empty_or_comment(trimmed_line: &[u8]) -> bool
+    ensures { result ≡ is_skipped trimmed_line.now }
 {
-    matches!(line, [] | [b'#', ..])
+    matches!(trimmed_line, [] | [b'#', ..])
 }

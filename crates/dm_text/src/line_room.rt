@@ -27,7 +27,7 @@ fn has_no_space(line: &[u8]) -> bool
 }
 
 /// Puts the line into `digits` with its spaces taken out.
-fn copy_without_spaces(line: &[u8], digits: &mut Vec<u8>) -> Result<(), AllocError>
+fn set_digits_without_spaces(line: &[u8], digits: &mut Vec<u8>) -> Result<(), AllocError>
     ensures { OnOk result (digits.new.items ≡ without_spaces line.now) }
 {
     digits.clear();
@@ -57,7 +57,7 @@ impl LineRoom {
         let good = if has_no_space(line) {
             set_octets_from_hex(line, &mut self.octets)?
         } else {
-            copy_without_spaces(line, &mut self.digits)?;
+            set_digits_without_spaces(line, &mut self.digits)?;
             set_octets_from_hex(self.digits.as_slice(), &mut self.octets)?
         };
         if good {

@@ -6,7 +6,7 @@ use crate::push_decimal;
 use std::alloc::AllocError;
 
 /// Appends the words for the line of this number, which is out of place.
-pub fn push_syntax_fault_of_line(text: &mut Vec<u8>, number: u64) -> Result<(), AllocError>
+pub fn push_syntax_fault_line(text: &mut Vec<u8>, number: u64) -> Result<(), AllocError>
     ensures { OnOk result (text.new.items ≡ text.old.items ++ codes "fault syntax " ++ decimal number ++ 10 ∷ []) }
 {
     text.extend_from_slice(b"fault syntax ")?;

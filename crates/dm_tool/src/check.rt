@@ -4,7 +4,7 @@ ghost use Rattle.dm_tool.specs.Check.{dictionary_fault_text, ChecksText, ChecksW
 ghost use Rattle.dm_tables.specs.Base.{base_definitions};
 ghost use Rattle.dm_dict_text.specs.declared.fault.DictFault.TheVariants as dict;
 
-use crate::divide::divide_at_divider;
+use crate::divide::divide_at_divider_or_end;
 use crate::fault::ToolFault;
 use crate::messages::{Task, messages_text};
 use crate::verdict::put_dictionary_fault_words;
@@ -43,7 +43,7 @@ fn check_text_with_dictionary_over(
     ensures checked { IfOk result (λ checked. ChecksWithDictionary input.now checked.0.items checked.1) }
     ensures fault { IfErr result (λ e. e ≡ ToolFault.Memory) }
 {
-    let divided = divide_at_divider(input);
+    let divided = divide_at_divider_or_end(input);
     match Dictionary::read(alloc, divided.dictionary, base) {
         Ok(dictionary) => {
             let checked = messages_text(alloc, Task::Check(&dictionary), divided.messages);

@@ -68,7 +68,7 @@ pub fn run_build<R: Read, W: Write>(
 
 /// Reads a script of two peers, and writes a line for each happening: its number, whether it was done or ignored,
 /// and how the peers stand behind it. The last line tells whether they agree, whether nothing is under way between
-/// them, and the link on which both are open. True where all of it was good.
+/// them, and the link on which both are open. True where all of it was good, though the peers may disagree.
 ///
 /// The script is read before its first happening. An input that is no script is written as its fault: `fault
 /// syntax` and the number of its first bad line, `fault SameHost` where the two peers have one name, or `fault

@@ -13,13 +13,13 @@ pub struct Divided<'a> {
     pub messages: &'a [u8],
 }
 
-/// Divides an input at its first line `%%`.
-pub fn divide_at_divider(input: &[u8]) -> Divided<'_>
+/// Divides an input at its first line `%%`; where there is none, at its end: then all is dictionary.
+pub fn divide_at_divider_or_end(input: &[u8]) -> Divided<'_>
     ensures dictionary { result.dictionary.now ≡ dictionary_part input.now }
     ensures messages { result.messages.now ≡ message_part input.now }
 {
     let mut size = 0;
-    'lines: while let Some(end) = first_line_len(&input[size..]) {
+    'lines: while let Some(end) = first_line_len_or_rest(&input[size..]) {
         let next = size + end;
         if is_divider(&input[size..next]) {
             return Divided {
@@ -35,8 +35,8 @@ pub fn divide_at_divider(input: &[u8]) -> Divided<'_>
     }
 }
 
-/// How many octets the first line has, with the LF that ends it; nothing where there is no line.
-fn first_line_len(input: &[u8]) -> Option<usize>
+/// How many octets the first line has, with the LF that ends it; all where no LF is, None where there is no octet.
+fn first_line_len_or_rest(input: &[u8]) -> Option<usize>
     ensures some { IfSome result (λ end. whole_lines input.now
         ≡ take end input.now ∷ whole_lines (drop end input.now)) }
     ensures within { IfSome result (λ end. end ≤ length input.now) }

@@ -22,7 +22,7 @@ fn units_in_second(resolution: Resolution) -> Option<u128>
     }
 }
 
-/// The units of a time on top of its seconds, in nanoseconds, rounded down.
+/// The units of a time on top of its seconds, in nanoseconds, rounded down: a second or more where there are so many.
 pub(crate) fn fraction_nanoseconds(time: Time) -> u128
     ensures { result ≡ nanoseconds_of time }
 {

@@ -67,7 +67,7 @@ fn say_and_write_held_packets<S: PacketSpeaker, W: Write>(
 }
 
 /// What is answered where a read fails: false where it was interrupted, so that it is made again, else the fault.
-fn fault_unless_interrupted(error: Error) -> Result<bool, RunFault>
+fn false_if_interrupted_else_fault(error: Error) -> Result<bool, RunFault>
     ensures again { IfOk result (λ end. end ≡ false) }
     ensures failed { IfErr result (λ fault. fault ≡ RunFault.Read error) }
 {
@@ -77,8 +77,8 @@ fn fault_unless_interrupted(error: Error) -> Result<bool, RunFault>
     Err(RunFault::Read(error))
 }
 
-/// Feeds the capture what the reader has at hand. True where the reader is at its end.
-fn feed_from_reader<R: BufRead>(
+/// Whether the reader is at its end; else it feeds the capture what the reader has at hand.
+fn is_reader_ended_else_feed<R: BufRead>(
     capture: &mut CaptureReader,
     reader: &mut R,
 ) -> Result<bool, RunFault>
@@ -88,7 +88,7 @@ fn feed_from_reader<R: BufRead>(
 {
     let octets = match reader.fill_buf() {
         Ok(octets) => octets,
-        Err(error) => return fault_unless_interrupted(error),
+        Err(error) => return false_if_interrupted_else_fault(error),
     };
     let size = octets.len();
     if capture.feed(octets).is_err() {
@@ -102,7 +102,7 @@ fn feed_from_reader<R: BufRead>(
 fn fault_at_end(capture: &CaptureReader) -> Option<CaptureFault>
     ensures { FileEnds capture.now result }
 {
-    match capture.check_is_whole_file() {
+    match capture.check_whole_file_was_read() {
         Ok(()) => None,
         Err(fault) => Some(fault),
     }
@@ -138,7 +138,7 @@ pub(crate) fn say_packets<S: PacketSpeaker, R: BufRead, W: Write>(
         if fault.is_some() {
             return Ok(fault);
         }
-        let ended = feed_from_reader(capture, reader)?;
+        let ended = is_reader_ended_else_feed(capture, reader)?;
         if ended {
             return Ok(fault_at_end(capture));
         }

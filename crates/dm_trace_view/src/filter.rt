@@ -110,7 +110,7 @@ fn says_session_if_asked(message: &MessageRef<'_>, session: Option<&[u8]>) -> bo
     }
 }
 
-/// Whether the dictionary has this name for the command of a header.
+/// Whether the one name that the dictionary has for the command of a header is this one, octet for octet.
 fn is_command_named(dictionary: &Dictionary, header: &Header, name: &[u8]) -> bool
     ensures { result ≡ bears_name (command_of dictionary.now header.now) name.now }
 {

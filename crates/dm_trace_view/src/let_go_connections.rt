@@ -12,8 +12,8 @@ use dm_dict::NoMemory;
 use dm_view_lines::Task;
 use std::alloc::{AllocError, Global};
 
-/// Appends that a connection was let go.
-fn put_let_go_connection<C: TwoWay>(
+/// Appends that a connection was let go, and how many octets with it.
+fn put_connection_was_let_go<C: TwoWay>(
     alloc: Global,
     text: &mut String,
     task: Task,
@@ -51,7 +51,7 @@ pub(crate) fn let_go_and_put_excess_connections<C: TwoWay>(
         let Some(gone) = connections.let_idlest_go() else {
             return Ok(so_far);
         };
-        let told = put_let_go_connection(alloc, text, hearing.task, hearing.packet, &gone);
+        let told = put_connection_was_let_go(alloc, text, hearing.task, hearing.packet, &gone);
         so_far = so_far.saturating_add(gone.connection.octets_held_that_came());
         drop(gone);
         told?;

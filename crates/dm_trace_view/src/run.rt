@@ -12,7 +12,7 @@ use crate::counts::Counts;
 use crate::ending::put_fault_and_counts;
 use crate::gathered_packets::Output;
 use crate::looks::Looks;
-use crate::trace_speaker::{let_all_go_and_take_counts, new_trace_speaker};
+use crate::trace_speaker::{counts_after_letting_all_go, new_trace_speaker};
 use dm_capture::{CaptureFault, CaptureReader};
 use dm_dict::Dictionary;
 use dm_view_lines::laws::texts_gathered_in_turn_gather_as_one;
@@ -84,7 +84,7 @@ pub fn say_capture<R: BufRead, W: Write>(
         writer,
     );
     let tally = speaker.reckoned.numbered.tally;
-    let counts = let_all_go_and_take_counts(&mut speaker);
+    let counts = counts_after_letting_all_go(&mut speaker);
     drop(speaker);
     drop(capture);
     drop(output);

@@ -125,7 +125,7 @@ fn put_octets_passed_over_if_any(
 }
 
 /// Appends how many octets of Diameter over DTLS came, where they are the first of their connection.
-fn put_secured_octets_if_first(
+fn put_dtls_octets_if_first(
     alloc: Global,
     text: &mut String,
     hearing: Hearing<'_>,
@@ -155,7 +155,7 @@ fn put_unread_octets(
         ≡ string_bytes text.old ++ unread_text hearing.entry between before after) }
 {
     put_octets_passed_over_if_any(alloc, text, hearing, between, before.passed, after.passed)?;
-    put_secured_octets_if_first(alloc, text, hearing, between, before.secured, after.secured)?;
+    put_dtls_octets_if_first(alloc, text, hearing, between, before.secured, after.secured)?;
     Ok(())
 }
 

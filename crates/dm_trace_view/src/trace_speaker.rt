@@ -1,4 +1,5 @@
-//! The speaker of packets: what is said of each, by what it carries, and what is counted.
+//! The speaker of packets: what is said of each, by what it carries, and what is counted, up to the end, where all
+//! connections are let go.
 ghost use Rattle.std.specs.Prelude.{◌≡◌, ◌++◌, ℕ, List, IfOk, OnOk};
 ghost use Rattle.std.specs.String.{string_bytes};
 ghost use Rattle.dm_capture.specs.Packets.{captured_of};
@@ -67,8 +68,9 @@ pub(crate) fn new_trace_speaker<'a>(
     })
 }
 
-/// What was counted, with the octets as passed over that came and weren't handed out. It lets all connections go.
-pub(crate) fn let_all_go_and_take_counts(speaker: &mut TraceSpeaker<'_>) -> Counts
+/// Lets all connections go, and answers what was counted, with the octets as passed over that came and weren't handed
+/// out.
+pub(crate) fn counts_after_letting_all_go(speaker: &mut TraceSpeaker<'_>) -> Counts
     ensures { result ≡ counts_behind speaker.old }
 {
     let counts = speaker.reckoned.counts;

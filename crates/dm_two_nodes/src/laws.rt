@@ -7,7 +7,7 @@ ghost use Rattle.dm_two_nodes.specs.Meeting.{TwoNodesAgree, QuietNodesAreShutOrO
 ghost use Rattle.dm_two_nodes.specs.Numbering.{StepsGoByNoNumber};
 ghost use Rattle.dm_two_nodes.specs.Renaming.{PeersGoByNoNumber};
 
-use dm_machine::laws::shaped_nodes_have_eight_forms;
+use dm_machine::laws::shaped_cores_have_eight_forms;
 use dm_octet_peers::laws::{
     each_octet_quiet_run_is_closed_or_open, each_octet_run_delivers_in_order,
     octet_peers_move_as_the_machine,
@@ -53,7 +53,7 @@ pub fn neighbours_become_the_sides_they_play()
 {
     peers_go_by_no_connection_number();
     done_events_are_steps_or_drops();
-    shaped_nodes_have_eight_forms();
+    shaped_cores_have_eight_forms();
     events_are_steps_drops_or_refusals();
     each_event_keeps_peers_settled();
 }
@@ -102,7 +102,7 @@ pub fn two_nodes_deliver_in_order()
 {
     peers_go_by_no_connection_number();
     done_events_are_steps_or_drops();
-    shaped_nodes_have_eight_forms();
+    shaped_cores_have_eight_forms();
     events_are_steps_drops_or_refusals();
     each_event_keeps_peers_settled();
     each_octet_run_delivers_in_order();

@@ -186,7 +186,7 @@ pub fn two_sample_runs_open_both()
     ensures { TwoRuns }
 {}
 
-/// The state machine with numbers makes peers as the law of clean runs asks for them.
+/// The state machine with the numbers of requests makes peers as the law of clean runs asks for them.
 pub fn numbered_machine_makes_electing_peers()
     ensures { TalkersAreElecting }
 {}

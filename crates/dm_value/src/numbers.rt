@@ -8,7 +8,7 @@ use byteorder::{BigEndian, ByteOrder};
 use std::alloc::{AllocError, Global};
 
 /// The number as four octets; or want of memory.
-pub(crate) fn write_unsigned_32(alloc: Global, number: u32) -> Result<Vec<u8>, AllocError>
+pub(crate) fn encode_unsigned_32(alloc: Global, number: u32) -> Result<Vec<u8>, AllocError>
     ensures octets { IfOk result (λ octets. octets.items ≡ be number 4) }
     ensures read_back { number ≡ big_number 4 (be number 4) }
     ensures fits { number < 256 ^ 4 }
@@ -19,7 +19,7 @@ pub(crate) fn write_unsigned_32(alloc: Global, number: u32) -> Result<Vec<u8>, A
 }
 
 /// The number as eight octets; or want of memory.
-pub(crate) fn write_unsigned_64(alloc: Global, number: u64) -> Result<Vec<u8>, AllocError>
+pub(crate) fn encode_unsigned_64(alloc: Global, number: u64) -> Result<Vec<u8>, AllocError>
     ensures octets { IfOk result (λ octets. octets.items ≡ be number 8) }
     ensures read_back { number ≡ big_number 8 (be number 8) }
     ensures fits { number < 256 ^ 8 }
@@ -30,7 +30,7 @@ pub(crate) fn write_unsigned_64(alloc: Global, number: u64) -> Result<Vec<u8>, A
 }
 
 /// The number as four octets, in two's complement; or want of memory.
-pub(crate) fn write_signed_32(alloc: Global, number: i32) -> Result<Vec<u8>, AllocError>
+pub(crate) fn encode_signed_32(alloc: Global, number: i32) -> Result<Vec<u8>, AllocError>
     ensures octets { IfOk result (λ octets. octets.items ≡ be (cast_unsigned w32 number) 4) }
     ensures read_back { number ≡ cast_signed w32 (big_number 4 (be (cast_unsigned w32 number) 4)) }
     ensures fits { FitsSigned w32 number }
@@ -41,7 +41,7 @@ pub(crate) fn write_signed_32(alloc: Global, number: i32) -> Result<Vec<u8>, All
 }
 
 /// The number as eight octets, in two's complement; or want of memory.
-pub(crate) fn write_signed_64(alloc: Global, number: i64) -> Result<Vec<u8>, AllocError>
+pub(crate) fn encode_signed_64(alloc: Global, number: i64) -> Result<Vec<u8>, AllocError>
     ensures octets { IfOk result (λ octets. octets.items ≡ be (cast_unsigned w64 number) 8) }
     ensures read_back { number ≡ cast_signed w64 (big_number 8 (be (cast_unsigned w64 number) 8)) }
     ensures fits { FitsSigned w64 number }

@@ -9,7 +9,7 @@ ghost use Rattle.dm_value.specs.Meaning.{Means, type_of, IsInRange, HasNoOctets,
 ghost use Rattle.dm_value.specs.declared.value.Value.{Value};
 
 use crate::laws::octets_have_one_value_at_most;
-use crate::numbers::{write_signed_32, write_signed_64, write_unsigned_32, write_unsigned_64};
+use crate::numbers::{encode_signed_32, encode_signed_64, encode_unsigned_32, encode_unsigned_64};
 use crate::{Address, AvpType, Ip, Value, ValueFault, value_fault};
 use byteorder::{BigEndian, ByteOrder};
 use dm_wire::{AvpList, WireFault, encode_avps};
@@ -38,7 +38,7 @@ pub fn write_value(alloc: Global, value: &Value) -> Result<Vec<u8>, ValueFault>
     if is_misshapen(value) {
         return Err(ValueFault::WrongValue);
     }
-    write_well_formed_value(alloc, value)
+    encode_well_formed_value(alloc, value)
 }
 
 /// Whether the value is an address of family 1 or 2 given as `Other`, or an identity or a URI not of
@@ -67,7 +67,7 @@ fn is_other_of_ip_family(address: &Address) -> bool
 }
 
 /// The octets of a value that is of its type's form; or `TooLong` for a group of a too long AVP, else want of memory.
-fn write_well_formed_value(alloc: Global, value: &Value) -> Result<Vec<u8>, ValueFault>
+fn encode_well_formed_value(alloc: Global, value: &Value) -> Result<Vec<u8>, ValueFault>
     requires { IsMisshapen value.now → ⊥ }
     ensures found { IfOk result (λ octets. Means (type_of value.now) octets.items value.now) }
     ensures group { (avps : List Avp) → value.now ≡ Value.Group avps
@@ -79,43 +79,43 @@ fn write_well_formed_value(alloc: Global, value: &Value) -> Result<Vec<u8>, Valu
 {
     match value {
         Value::Bytes(octets) => Ok(Vec::from_slice(alloc, octets.as_slice())?),
-        Value::Int32(number) => Ok(write_signed_32(alloc, *number)?),
-        Value::Int64(number) => Ok(write_signed_64(alloc, *number)?),
-        Value::Uint32(number) => Ok(write_unsigned_32(alloc, *number)?),
-        Value::Uint64(number) => Ok(write_unsigned_64(alloc, *number)?),
-        Value::Addr(address) => Ok(write_address(alloc, address)?),
-        Value::Time(seconds) => Ok(write_unsigned_32(alloc, *seconds)?),
+        Value::Int32(number) => Ok(encode_signed_32(alloc, *number)?),
+        Value::Int64(number) => Ok(encode_signed_64(alloc, *number)?),
+        Value::Uint32(number) => Ok(encode_unsigned_32(alloc, *number)?),
+        Value::Uint64(number) => Ok(encode_unsigned_64(alloc, *number)?),
+        Value::Addr(address) => Ok(encode_address(alloc, address)?),
+        Value::Time(seconds) => Ok(encode_unsigned_32(alloc, *seconds)?),
         Value::Text(text) => Ok(Vec::from_slice(alloc, text.as_str().as_bytes())?),
         Value::Identity(name) => Ok(Vec::from_slice(alloc, name.as_slice())?),
         Value::Uri(uri) => Ok(Vec::from_slice(alloc, uri.as_slice())?),
-        Value::Enumerated(number) => Ok(write_signed_32(alloc, *number)?),
-        Value::Group(avps) => write_group(alloc, avps),
+        Value::Enumerated(number) => Ok(encode_signed_32(alloc, *number)?),
+        Value::Group(avps) => encode_group(alloc, avps),
     }
 }
 
-fn write_address(alloc: Global, address: &Address) -> Result<Vec<u8>, AllocError>
+fn encode_address(alloc: Global, address: &Address) -> Result<Vec<u8>, AllocError>
     requires { IsMisshapen (Value.Addr address.now) → ⊥ }
     ensures found { IfOk result (λ octets. Means AvpType.Address octets.items (Value.Addr address.now)) }
     ensures range { IsInRange (Value.Addr address.now) }
 {
     match address {
-        Address::Ip(ip) => write_ip(alloc, ip),
-        Address::Other(family, rest) => write_address_of_family(alloc, *family, rest.as_slice()),
+        Address::Ip(ip) => encode_ip(alloc, ip),
+        Address::Other(family, rest) => encode_address_of_family(alloc, *family, rest.as_slice()),
     }
 }
 
-fn write_ip(alloc: Global, ip: &Ip) -> Result<Vec<u8>, AllocError>
+fn encode_ip(alloc: Global, ip: &Ip) -> Result<Vec<u8>, AllocError>
     ensures found { IfOk result (λ octets. Means AvpType.Address octets.items (Value.Addr (Address.Ip ip.now))) }
     ensures range { IsInRange (Value.Addr (Address.Ip ip.now)) }
 {
     match ip {
-        Ip::V4(octets) => write_address_of_family(alloc, 1, octets),
-        Ip::V6(octets) => write_address_of_family(alloc, 2, octets),
+        Ip::V4(octets) => encode_address_of_family(alloc, 1, octets),
+        Ip::V6(octets) => encode_address_of_family(alloc, 2, octets),
     }
 }
 
 /// An address: two octets of family, and the octets behind it; or want of memory.
-fn write_address_of_family(alloc: Global, family: u16, rest: &[u8]) -> Result<Vec<u8>, AllocError>
+fn encode_address_of_family(alloc: Global, family: u16, rest: &[u8]) -> Result<Vec<u8>, AllocError>
     ensures octets { IfOk result (λ octets. octets.items ≡ be family 2 ++ rest.now) }
     ensures read_back { family ≡ big_number 2 (be family 2 ++ rest.now) }
     ensures fits { family < 256 ^ 2 }
@@ -130,7 +130,7 @@ fn write_address_of_family(alloc: Global, family: u16, rest: &[u8]) -> Result<Ve
 
 /// The octets of the AVPs, one after the other; or `TooLong` where the AVP Length of one would pass 16777215, else want
 /// of memory.
-fn write_group(alloc: Global, avps: &AvpList) -> Result<Vec<u8>, ValueFault>
+fn encode_group(alloc: Global, avps: &AvpList) -> Result<Vec<u8>, ValueFault>
     ensures found { IfOk result (λ octets. Means AvpType.Grouped octets.items (Value.Group avps.now)) }
     ensures canonical { IfOk result (λ octets. octets.items ≡ canonical_list avps.now) }
     ensures long { IsErrOf result ValueFault.TooLong ↔ IsLongList avps.now }

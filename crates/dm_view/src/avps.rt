@@ -8,7 +8,7 @@ ghost use Rattle.dm_wire.specs.Printed.{data_text};
 ghost use Rattle.dm_dict.specs.Rules.{definition};
 ghost use Rattle.dm_view.specs.View.{avp_name, front_view, avp_view, avps_view, group_view};
 
-use crate::code_and_flags::put_code_vendor_and_flags;
+use crate::code_and_flags::put_spaced_code_vendor_and_flags;
 use crate::data::put_spaced_data;
 use crate::texts_and_numbers::{put_indent, put_name_or_hexadecimal, put_words_and_hexadecimal};
 use dm_dict::{AvpDef, AvpType, Dictionary};
@@ -19,7 +19,10 @@ use std::alloc::AllocError;
 pub(crate) const GROUPS_SHOWN: u32 = 8;
 
 /// Appends the name of an AVP, `?` where it has no definition.
-pub(crate) fn put_avp_name(text: &mut String, def: Option<&AvpDef>) -> Result<(), AllocError>
+pub(crate) fn put_avp_name_or_placeholder(
+    text: &mut String,
+    def: Option<&AvpDef>,
+) -> Result<(), AllocError>
     ensures { OnOk result (string_bytes text.new ≡ string_bytes text.old ++ avp_name (option_copied def.entry)) }
 {
     match def {
@@ -38,8 +41,8 @@ pub(crate) fn put_avp_without_data(
     ensures { OnOk result (string_bytes text.new
         ≡ string_bytes text.old ++ front_view (option_copied def.entry) (avp_of avp.entry)) }
 {
-    put_avp_name(text, def)?;
-    put_code_vendor_and_flags(text, avp)
+    put_avp_name_or_placeholder(text, def)?;
+    put_spaced_code_vendor_and_flags(text, avp)
 }
 
 /// Appends words, data in hexadecimal, and the end of the line.

@@ -61,7 +61,7 @@ fn prepend_vendor_if_any(vendor: Option<u32>, room: &mut [u8; FRONT_SIZE]) -> us
 }
 
 /// Appends code, vendor and flags, a space before them.
-pub(crate) fn put_code_vendor_and_flags(
+pub(crate) fn put_spaced_code_vendor_and_flags(
     text: &mut String,
     avp: AvpRef<'_>,
 ) -> Result<(), AllocError>

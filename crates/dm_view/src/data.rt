@@ -15,8 +15,9 @@ ghost use Rattle.dm_view.specs.View.{listed_text, value_view, flaw_words, data_v
 use crate::clean::are_escape_free_ascii;
 use crate::described_data::ipv6_octets;
 use crate::texts_and_numbers::{
-    put_hexadecimal_or_dash, put_name_or_hexadecimal, put_quoted_or_hexadecimal, put_signed_number,
-    put_unsigned_number, put_utf8_between, put_words_and_hexadecimal, put_words_and_number,
+    put_hexadecimal_or_dash, put_name_or_hexadecimal, put_quoted_unescaped_or_hexadecimal,
+    put_signed_number, put_unsigned_number, put_utf8_between, put_words_and_hexadecimal,
+    put_words_and_number,
 };
 use byteorder::{BigEndian, ByteOrder};
 use dm_dict::{AvpDef, AvpType, Ip, ValueFault, unix_seconds, utc_date, value_fault};
@@ -79,19 +80,19 @@ pub(crate) fn put_address(text: &mut String, octets: &[u8]) -> Result<(), AllocE
 }
 
 /// Appends a value of type Time, which is in seconds since 1900: its seconds since 1970, and the date and time of day.
-fn put_unix_seconds_and_date(text: &mut String, seconds: u32) -> Result<(), AllocError>
-    ensures { OnOk result (string_bytes text.new ≡ string_bytes text.old ++ time_text seconds) }
+fn put_unix_seconds_and_date(text: &mut String, time: u32) -> Result<(), AllocError>
+    ensures { OnOk result (string_bytes text.new ≡ string_bytes text.old ++ time_text time) }
 {
-    put_signed_number(text, unix_seconds(seconds))?;
-    write!(text, " {}", utc_date(seconds))
+    put_signed_number(text, unix_seconds(time))?;
+    write!(text, " {}", utc_date(time))
 }
 
 /// Appends a text between `"`, or in hexadecimal where a control or a `"` stands in it.
-fn put_text_value(text: &mut String, octets: &[u8]) -> Result<(), AllocError>
+fn put_text_unescaped_or_hexadecimal(text: &mut String, octets: &[u8]) -> Result<(), AllocError>
     requires { flaw AvpType.UTF8String octets.now ≡ None }
     ensures { OnOk result (string_bytes text.new ≡ string_bytes text.old ++ quoted octets.now) }
 {
-    put_quoted_or_hexadecimal(text, octets)
+    put_quoted_unescaped_or_hexadecimal(text, octets)
 }
 
 /// Appends an identity, which is visible ASCII.
@@ -118,7 +119,7 @@ fn put_value(text: &mut String, def: &AvpDef, octets: &[u8]) -> Result<(), Alloc
         AvpType::Unsigned64 => put_unsigned_number(text, BigEndian::read_u64(octets)),
         AvpType::Address => put_address(text, octets),
         AvpType::Time => put_unix_seconds_and_date(text, BigEndian::read_u32(octets)),
-        AvpType::UTF8String => put_text_value(text, octets),
+        AvpType::UTF8String => put_text_unescaped_or_hexadecimal(text, octets),
         AvpType::DiameterIdentity => put_identity_value(text, octets),
         AvpType::DiameterURI => put_name_or_hexadecimal(text, octets),
         AvpType::Enumerated => {

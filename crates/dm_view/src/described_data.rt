@@ -52,8 +52,8 @@ fn write_value<W: fmt::Write>(f: &mut fmt::Formatter<W>, def: &AvpDef, octets: &
         AvpType::Unsigned64 => write!(f, "{}", BigEndian::read_u64(octets)),
         AvpType::Address => write_address(f, octets),
         AvpType::Time => write_unix_seconds_and_date(f, BigEndian::read_u32(octets)),
-        AvpType::UTF8String => write_text_value(f, octets),
-        AvpType::DiameterIdentity | AvpType::DiameterURI => write_identity_or_uri(f, octets),
+        AvpType::UTF8String => write_text_unescaped_or_hexadecimal(f, octets),
+        AvpType::DiameterIdentity | AvpType::DiameterURI => write_name_or_hexadecimal(f, octets),
         AvpType::Enumerated => {
             let number = BigEndian::read_i32(octets);
             write_enumerated(f, def.values.name(number), number)
@@ -76,17 +76,17 @@ fn write_address<W: fmt::Write>(f: &mut fmt::Formatter<W>, octets: &[u8]) -> fmt
 }
 
 /// Writes a value of type Time, which is in seconds since 1900: its seconds since 1970, and the date and time of day.
-fn write_unix_seconds_and_date<W: fmt::Write>(
-    f: &mut fmt::Formatter<W>,
-    seconds: u32,
-) -> fmt::Result
-    ensures { WritesOnOk W.Write.write_str_gives f.old result (time_text seconds) f.new }
+fn write_unix_seconds_and_date<W: fmt::Write>(f: &mut fmt::Formatter<W>, time: u32) -> fmt::Result
+    ensures { WritesOnOk W.Write.write_str_gives f.old result (time_text time) f.new }
 {
-    write!(f, "{} {}", unix_seconds(seconds), utc_date(seconds))
+    write!(f, "{} {}", unix_seconds(time), utc_date(time))
 }
 
 /// Writes a text between `"`, or in hexadecimal where a control or a `"` stands in it.
-fn write_text_value<W: fmt::Write>(f: &mut fmt::Formatter<W>, octets: &[u8]) -> fmt::Result
+fn write_text_unescaped_or_hexadecimal<W: fmt::Write>(
+    f: &mut fmt::Formatter<W>,
+    octets: &[u8],
+) -> fmt::Result
     requires { flaw AvpType.UTF8String octets.now ≡ None }
     ensures { WritesOnOk W.Write.write_str_gives f.old result (quoted octets.now) f.new }
 {
@@ -96,8 +96,8 @@ fn write_text_value<W: fmt::Write>(f: &mut fmt::Formatter<W>, octets: &[u8]) -> 
     }
 }
 
-/// Writes an identity or a URI as it is where it is UTF-8, else in hexadecimal.
-fn write_identity_or_uri<W: fmt::Write>(f: &mut fmt::Formatter<W>, octets: &[u8]) -> fmt::Result
+/// Writes a name, as an identity or a URI is one, as it is where it is UTF-8, else in hexadecimal.
+fn write_name_or_hexadecimal<W: fmt::Write>(f: &mut fmt::Formatter<W>, octets: &[u8]) -> fmt::Result
     ensures { WritesOnOk W.Write.write_str_gives f.old result (name_text octets.now) f.new }
 {
     match str::from_utf8(octets) {

@@ -12,7 +12,7 @@ ghost use Rattle.dm_view.specs.Check.{step_text, without_data, failed_length, fr
 ghost use Rattle.dm_view.specs.Results.{result_text};
 ghost use Rattle.dm_view.specs.Check.{failed_view, fault_line, verdict_words, are_none, check_view};
 
-use crate::avps::{put_avp_name, put_avp_without_data};
+use crate::avps::{put_avp_name_or_placeholder, put_avp_without_data};
 use crate::header::put_header_line;
 use crate::reasons::{Reason, ReasonBehind};
 use crate::results::result_name_or_placeholder;
@@ -23,26 +23,34 @@ use dm_text::put_decimal;
 use dm_wire::{AvpRef, MessageRef};
 use std::alloc::{AllocError, Global};
 
-/// Appends a group round an AVP: its name, and which of that name it is in its list.
+/// Appends a group round an AVP, behind a space and before ` /`: its name, and which of that name it is in its list.
 #[tactic(auto, unfolding(crate::specs::Check::step_text))]
-fn put_path_step(text: &mut String, dictionary: &Dictionary, step: &Step) -> Result<(), AllocError>
+fn put_spaced_step_and_slash(
+    text: &mut String,
+    dictionary: &Dictionary,
+    step: &Step,
+) -> Result<(), AllocError>
     ensures { OnOk result (string_bytes text.new ≡ string_bytes text.old ++ step_text dictionary.now.avps step.now) }
 {
     text.push_str(" ")?;
-    put_avp_name(text, dictionary.avp_by_code(step.code, step.vendor))?;
+    put_avp_name_or_placeholder(text, dictionary.avp_by_code(step.code, step.vendor))?;
     text.push_str("[")?;
     put_decimal(text, step.nth as u64)?;
     text.push_str("] /")
 }
 
-/// Appends the groups round an AVP, the outermost first.
-fn put_path(text: &mut String, dictionary: &Dictionary, path: &[Step]) -> Result<(), AllocError>
+/// Appends the groups round an AVP, the outermost first, each behind a space and before ` /`.
+fn put_spaced_steps_and_slashes(
+    text: &mut String,
+    dictionary: &Dictionary,
+    path: &[Step],
+) -> Result<(), AllocError>
     ensures { OnOk result (string_bytes text.new
         ≡ string_bytes text.old ++ flat_map (step_text dictionary.now.avps) path.now) }
 {
     let mut left = path;
     while let [step, rest @ ..] = left {
-        put_path_step(text, dictionary, step)?;
+        put_spaced_step_and_slash(text, dictionary, step)?;
         left = rest;
     }
     Ok(())
@@ -76,8 +84,9 @@ pub(crate) fn failed_avp_data_length(failed: Failed<'_>) -> usize
     }
 }
 
-/// Appends a failed AVP, whose data has this length: that it is lacking, or its front and why it is a fault.
-fn put_failed_avp_and_reason(
+/// Appends a failed AVP, whose data has this length, behind a space: that it is lacking, or its front and why it is a
+/// fault.
+fn put_spaced_failed_avp_and_reason(
     text: &mut String,
     def: Option<&AvpDef>,
     code: u32,
@@ -98,8 +107,8 @@ fn put_failed_avp_and_reason(
     write!(text, "{}", ReasonBehind(reason))
 }
 
-/// Appends a failed AVP and why it is a fault, where there is one.
-fn put_any_failed_avp_and_reason(
+/// Appends a failed AVP and why it is a fault, behind a space, where there is one.
+fn put_spaced_failed_avp_if_any(
     text: &mut String,
     dictionary: &Dictionary,
     code: u32,
@@ -113,7 +122,7 @@ fn put_any_failed_avp_and_reason(
         return Ok(());
     };
     let def = dictionary.avp_by_code(avp.code, avp.vendor);
-    put_failed_avp_and_reason(text, def, code, length, avp)
+    put_spaced_failed_avp_and_reason(text, def, code, length, avp)
 }
 
 /// Appends a Result-Code with its name, two spaces before it.
@@ -136,9 +145,9 @@ fn put_fault_line(
 {
     let (code, failed) = (fault.fault.code, fault.fault.failed);
     put_indented_result_code_and_name(text, code)?;
-    put_path(text, dictionary, fault.path.as_slice())?;
+    put_spaced_steps_and_slashes(text, dictionary, fault.path.as_slice())?;
     let length = failed_avp_data_length(failed);
-    put_any_failed_avp_and_reason(
+    put_spaced_failed_avp_if_any(
         text,
         dictionary,
         code,
@@ -167,7 +176,10 @@ fn put_fault_lines(
 }
 
 /// Appends `good ` and returns true where there are no faults; else `bad ` and false.
-fn put_verdict_word(text: &mut String, faults: &[LocatedFault<'_>]) -> Result<bool, AllocError>
+fn put_verdict_word_and_space(
+    text: &mut String,
+    faults: &[LocatedFault<'_>],
+) -> Result<bool, AllocError>
     ensures shown { OnOk result (string_bytes text.new
         ≡ string_bytes text.old ++ verdict_words (map told_at faults.now)) }
     ensures good { IfOk result (λ good. good ≡ are_none (map told_at faults.now)) }
@@ -197,7 +209,7 @@ fn put_verdict_header_and_found_faults(
         ++ check_view dictionary.now (record { header = message.now.header; avps = l })) }
     ensures good { IfOk result (λ good. good ≡ are_none (map told_at faults.now)) }
 {
-    let good = put_verdict_word(text, faults)?;
+    let good = put_verdict_word_and_space(text, faults)?;
     put_header_line(text, dictionary, &message.header)?;
     put_fault_lines(text, dictionary, faults)?;
     Ok(good)

@@ -11,7 +11,10 @@ use dm_wire::Header;
 use std::alloc::AllocError;
 
 /// Appends the name of a command, `?` where it has no definition.
-fn put_command_name(text: &mut String, def: Option<&CommandDef>) -> Result<(), AllocError>
+fn put_command_name_or_placeholder(
+    text: &mut String,
+    def: Option<&CommandDef>,
+) -> Result<(), AllocError>
     ensures { OnOk result (string_bytes text.new ≡ string_bytes text.old ++ command_name (option_copied def.entry)) }
 {
     match def {
@@ -81,7 +84,7 @@ pub fn put_header_line(
     ensures { OnOk result (string_bytes text.new
         ≡ string_bytes text.old ++ header_view (command_of dictionary.now header.now) header.now) }
 {
-    put_command_name(
+    put_command_name_or_placeholder(
         text,
         dictionary.command(header.command, header.request, false),
     )?;

@@ -47,7 +47,7 @@ fn put_avp_name_member(json: &mut JsonText, def: Option<&AvpDef>) -> Result<(), 
 }
 
 /// Appends the flags of an AVP in words, as a member `flags`.
-fn put_flags_member_of(json: &mut JsonText, avp: AvpRef<'_>) -> Result<(), AllocError>
+fn put_flags_member_of_avp(json: &mut JsonText, avp: AvpRef<'_>) -> Result<(), AllocError>
     ensures { OnOk result (json.new ≡ json.old ++ key (codes "flags") ∷ json_tokens (avp_words (avp_of avp.entry))) }
 {
     json.put_avp_flags_member(avp.vendor.is_some(), avp.mandatory, avp.protected)
@@ -65,7 +65,7 @@ pub(crate) fn put_avp_members_without_data(
     put_avp_name_member(json, def)?;
     json.put_avp_code_member(avp.code)?;
     put_vendor_member_if_any(json, avp.vendor)?;
-    put_flags_member_of(json, avp)
+    put_flags_member_of_avp(json, avp)
 }
 
 /// Appends an AVP as an object, inside which so many groups may stand.

@@ -1,7 +1,6 @@
 //! All that is wrong with a message in JSON (RFC 6733, 7).
 ghost use Rattle.std.specs.Prelude.{◌≡◌, ◌++◌, ◌∷◌, List, codes, map, option_map, OnOk, IfOk};
 ghost use Rattle.std.specs.Option.{option_copied};
-ghost use Rattle.std.specs.String.{string_bytes};
 ghost use Rattle.json.specs.Json.{Members};
 ghost use Rattle.json.specs.Token.{key};
 ghost use Rattle.json.specs.Tree.{json_tokens, items_tokens, members_tokens};
@@ -11,36 +10,19 @@ ghost use Rattle.dm_wire.specs.Spelling.{SpellsList};
 ghost use Rattle.dm_dict.specs.Located.{located_faults};
 ghost use Rattle.dm_dict.specs.Locating.{told_at};
 ghost use Rattle.dm_view.specs.Check.{are_none};
-ghost use Rattle.dm_view.specs.JsonCheck.{failed_words, failed_members_by, failed_members};
-ghost use Rattle.dm_view.specs.JsonCheck.{fault_json, faults_items, verdict_json, check_members};
+ghost use Rattle.dm_view.specs.JsonCheck.{failed_members_by, failed_members, fault_json, faults_items};
+ghost use Rattle.dm_view.specs.JsonCheck.{verdict_json, check_members};
 
 use crate::faults::{failed_avp_data_length, failed_avp_without_data};
 use crate::json_avps::put_avp_members_without_data;
 use crate::json_header::put_header_object;
 use crate::json_path::put_path_and_end_array;
 use crate::json_text::JsonText;
-use crate::reasons::Reason;
+use crate::reasons::fault_reason;
 use crate::results::result_name_or_placeholder;
-use dm_dict::codes::MISSING_AVP;
 use dm_dict::{AvpDef, Dictionary, LocatedFault, NoMemory};
 use dm_wire::{AvpRef, MessageRef};
 use std::alloc::{AllocError, Global};
-
-/// Why an AVP of this definition, whose data has this length, is a fault.
-fn fault_reason(
-    alloc: Global,
-    code: u32,
-    def: Option<&AvpDef>,
-    length: usize,
-) -> Result<String, AllocError>
-    ensures { IfOk result (λ words. string_bytes words ≡ failed_words code (option_copied def.entry) length) }
-{
-    if code == MISSING_AVP {
-        return format!(in alloc; "missing");
-    }
-    let kind = def.map(|def| def.kind);
-    format!(in alloc; "{}", Reason { code, kind, length })
-}
 
 /// Ends the object of a fault with its failed AVP, whose data has this length, and why that is one: members `avp` and
 /// `reason`.

@@ -29,7 +29,7 @@ fn request_or_answer_word(header: &Header) -> &'static str
 }
 
 /// Appends the flags of a header in words, as an array: the first says whether it is a request's or an answer's.
-fn put_command_flags_array(json: &mut JsonText, header: &Header) -> Result<(), AllocError>
+fn put_flag_words_array(json: &mut JsonText, header: &Header) -> Result<(), AllocError>
     ensures { OnOk result (json.new ≡ json.old ++ json_tokens (header_words header.now)) }
 {
     json.begin_array()?;
@@ -71,7 +71,7 @@ pub fn put_header_object(
     put_command_name_or_null(json, def)?;
     json.put_number_member("code", header.command)?;
     json.put_key("flags")?;
-    put_command_flags_array(json, header)?;
+    put_flag_words_array(json, header)?;
     end_header_with_application_and_identifiers(json, header)?;
     Ok(())
 }

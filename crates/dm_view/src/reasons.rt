@@ -1,12 +1,16 @@
 //! Why an AVP is a fault (RFC 6733, 7.1.5).
-ghost use Rattle.std.specs.Prelude.{◌≡◌, Some};
+ghost use Rattle.std.specs.Prelude.{◌≡◌, Some, IfOk};
+ghost use Rattle.std.specs.Option.{option_copied};
+ghost use Rattle.std.specs.String.{string_bytes};
+ghost use Rattle.dm_view.specs.JsonCheck.{failed_words};
 ghost use Rattle.dm_view.specs.Reasons.{bound_words, length_words, reason_words, reason_text};
 
 use dm_dict::codes::{
     AVP_NOT_ALLOWED, AVP_OCCURS_TOO_MANY_TIMES, AVP_UNSUPPORTED, INVALID_AVP_LENGTH,
-    INVALID_AVP_VALUE,
+    INVALID_AVP_VALUE, MISSING_AVP,
 };
-use dm_dict::{AvpType, least_len};
+use dm_dict::{AvpDef, AvpType, least_len};
+use std::alloc::{AllocError, Global};
 use std::fmt;
 
 /// What stands before the least length of a type: `, at least ` where its data may be longer, else `, not `.
@@ -95,4 +99,20 @@ impl fmt::Display for ReasonBehind {
             _ => Ok(()),
         }
     }
+}
+
+/// Why an AVP of this definition, whose data has this length, is a fault.
+pub(crate) fn fault_reason(
+    alloc: Global,
+    code: u32,
+    def: Option<&AvpDef>,
+    length: usize,
+) -> Result<String, AllocError>
+    ensures { IfOk result (λ words. string_bytes words ≡ failed_words code (option_copied def.entry) length) }
+{
+    if code == MISSING_AVP {
+        return format!(in alloc; "missing");
+    }
+    let kind = def.map(|def| def.kind);
+    format!(in alloc; "{}", Reason { code, kind, length })
 }

@@ -41,7 +41,10 @@ fn are_without_controls_and_quotes(octets: &[u8]) -> bool
 
 /// Appends octets that are text between `"`, or in hexadecimal where a control or a `"` stands in them.
 #[tactic(auto, unfolding(crate::specs::Words::quoted))]
-pub(crate) fn put_quoted_or_hexadecimal(text: &mut String, octets: &[u8]) -> Result<(), AllocError>
+pub(crate) fn put_quoted_unescaped_or_hexadecimal(
+    text: &mut String,
+    octets: &[u8],
+) -> Result<(), AllocError>
     requires { IsUtf8 octets.now }
     ensures { OnOk result (string_bytes text.new ≡ string_bytes text.old ++ quoted octets.now) }
 {

@@ -10,7 +10,7 @@ ghost use Rattle.dm_view_lines.specs.Said.{SaysOctets};
 use crate::message_reports::{Task, put_octets_report};
 use crate::tally::Tally;
 use dm_dict::{Dictionary, NoMemory};
-use dm_framer::laws::frame_or_fault_excludes_others;
+use dm_framer::laws::one_front_frame_or_lasting_fault;
 use dm_framer::{FrameFault, Framer};
 use std::alloc::Global;
 
@@ -64,7 +64,7 @@ pub(crate) fn take_frames_and_put_reports(
     ensures held { IfOk result (λ read. read.held ≡ length framer.new.octets) }
     ensures kept { framer.new ≡ record framer.old { octets = framer.new.octets } }
 {
-    frame_or_fault_excludes_others();
+    one_front_frame_or_lasting_fault();
     let mut tally = reading.tally;
     let mut held = reading.held;
     loop {

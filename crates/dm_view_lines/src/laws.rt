@@ -24,7 +24,7 @@ pub fn lines_always_have_a_report()
 
 /// What is said of the lines of two inputs, each by itself, the first of which ends with a line's end, is what is said
 /// of each, numbers going on. The law stands for users.
-pub fn joined_lines_are_reported_as_each()
+pub fn joined_inputs_are_reported_in_turn()
     ensures { JoinedSaid }
 {}
 

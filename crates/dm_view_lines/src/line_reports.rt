@@ -11,7 +11,7 @@ use crate::message_reports::{Task, put_octets_report};
 use crate::tally::{Tally, put_tally_if_checked};
 use dm_dict::{Dictionary, NoMemory};
 use dm_text::Lines;
-use dm_text::laws::octet_count_bounds_line_count;
+use dm_text::laws::lines_exceed_octets_by_one_at_most;
 use std::alloc::Global;
 
 /// Appends what is said of the line of this number, and tells whether it is good; `None` where it says nothing.
@@ -70,7 +70,7 @@ fn put_report_of_all_lines(
     ensures { IfOk result (λ tally. (more : List ℕ) × (string_bytes text.new ≡ string_bytes text.old ++ more)
         × SaysLines task dictionary.now 1 (lines input.now) more tally) }
 {
-    octet_count_bounds_line_count();
+    lines_exceed_octets_by_one_at_most();
     let mut digits = Vec::new(alloc);
     let mut tally = Tally { good: 0, bad: 0 };
     let mut number: u64 = 0;

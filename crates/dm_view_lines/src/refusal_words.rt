@@ -8,7 +8,7 @@ use std::alloc::{AllocError, Global};
 
 /// Appends the Result-Code of octets that are no message, its name, and why.
 #[tactic(auto, unfolding(crate::specs::Reasons::refusal_words))]
-fn put_refusal_words(text: &mut String, fault: WireFault) -> Result<(), AllocError>
+fn put_result_code_and_reason(text: &mut String, fault: WireFault) -> Result<(), AllocError>
     ensures { OnOk result (string_bytes text.new ≡ string_bytes text.old ++ refusal_words fault) }
 {
     match fault {
@@ -34,7 +34,7 @@ fn put_refusal_sentence(text: &mut String, fault: WireFault) -> Result<(), Alloc
     ensures { OnOk result (string_bytes text.new ≡ string_bytes text.old ++ refusal_sentence fault) }
 {
     text.push_str("no message: ")?;
-    put_refusal_words(text, fault)?;
+    put_result_code_and_reason(text, fault)?;
     Ok(())
 }
 

@@ -21,7 +21,7 @@ use dm_framer::laws::{
     cuts_change_no_frames, faults_of_streams_stay, frames_in_a_row_stay_themselves,
 };
 use dm_text::Lines;
-use dm_text::laws::octet_count_bounds_line_count;
+use dm_text::laws::lines_exceed_octets_by_one_at_most;
 use dm_wire::codes::limits::MAX_MESSAGE_LEN;
 use std::alloc::Global;
 
@@ -105,7 +105,7 @@ pub(crate) fn feed_line_and_put_reports(
 
 /// Appends what is said of the messages of the lines of an input as one stream. It tells how many are good and bad, and
 /// why the stream is read no further, where something is left of it or lost.
-fn put_stream_report(
+fn put_report_of_all_messages(
     alloc: Global,
     text: &mut String,
     dictionary: &Dictionary,
@@ -117,7 +117,7 @@ fn put_stream_report(
         × SaysFrames task dictionary.now 1 (stream_of (lines input.now)) rest fault more read.0
         × (read.1 ≡ stop_of rest fault (bad_line 1 (lines input.now)))) }
 {
-    octet_count_bounds_line_count();
+    lines_exceed_octets_by_one_at_most();
     cuts_change_no_frames();
     faults_of_streams_stay();
     frames_in_a_row_stay_themselves();
@@ -160,7 +160,7 @@ pub fn stream_report(
     ensures { IfOk result (λ said. SaysStream task dictionary.now input.now said.0.items said.1) }
 {
     let mut text = String::new(alloc);
-    let (counted, stop) = put_stream_report(alloc, &mut text, dictionary, task, input)?;
+    let (counted, stop) = put_report_of_all_messages(alloc, &mut text, dictionary, task, input)?;
     let tally = put_and_count_stop(alloc, &mut text, task, counted, stop)?;
     put_tally_if_checked(alloc, &mut text, task, tally)?;
     Ok((text.into_bytes(), tally.bad == 0))

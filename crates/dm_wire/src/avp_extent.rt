@@ -22,7 +22,7 @@ pub(crate) struct Extent {
 }
 
 /// The flag octet and the AVP Length of an AVP's header: one number is read, and parted.
-fn flags_and_length(octets: &[u8]) -> (u32, usize)
+fn flag_octet_and_length(octets: &[u8]) -> (u32, usize)
     requires { 8 ≤ length octets.now }
     ensures flags { result.0 ≡ slice_index octets.now 4 }
     ensures len { result.1 ≡ big_number 3 (drop 5 octets.now) }
@@ -42,7 +42,7 @@ pub(crate) fn first_avp_extent(octets: &[u8]) -> Option<Extent>
     if octets.len() < 8 {
         return None;
     }
-    let (flags, length) = flags_and_length(octets);
+    let (flags, length) = flag_octet_and_length(octets);
     let header = if flags & 0x80 == 0 { 8 } else { 12 };
     let size = (length + 3) / 4 * 4;
     if length < header || octets.len() < size {
@@ -60,7 +60,7 @@ pub(crate) fn avp_of_extent(octets: &[u8], extent: Extent) -> AvpRef<'_>
     requires { IsExtent extent octets.now }
     ensures { avp_of result ≡ avp_at octets.now }
 {
-    let (flags, _) = flags_and_length(octets);
+    let (flags, _) = flag_octet_and_length(octets);
     AvpRef {
         code: BigEndian::read_u32(octets),
         vendor: if flags & 0x80 == 0 {

@@ -1,11 +1,10 @@
 //! Lists of AVPs, held or spelled by octets (RFC 6733, 4.1 and 4.4).
-ghost use Rattle.std.specs.Prelude.{◌≡◌, ◌<◌, ◌≤◌, ◌⊎◌, None, List, [], ◌∷◌, length, drop};
-ghost use Rattle.std.specs.Prelude.{option_map, is_some, IfSome, IfNone, MatchOption};
+ghost use Rattle.std.specs.Prelude.{◌≡◌, ◌<◌, List, [], ◌∷◌, is_some, IfSome, MatchOption};
 ghost use Rattle.dm_wire.specs.declared.avp.Avp.{Avp};
 ghost use Rattle.dm_wire.specs.Members.{members};
 ghost use Rattle.dm_wire.specs.Borrowed.{avp_of, Lists, size_of};
 
-use crate::first_avp_and_header::first_avp;
+use crate::first_avp_and_header::first_spelled_avp;
 use crate::walk::check_avps;
 use crate::{Avp, AvpRef};
 
@@ -16,18 +15,6 @@ pub enum AvpsRef<'a> {
     Held(&'a [Avp]),
     /// The octets that spell the AVPs, one after the other, as the data of a Grouped AVP.
     Spelled(&'a [u8]),
-}
-
-/// The first of the AVPs that the octets spell, and how many octets it takes; None where there are no octets, or they
-/// spell no AVPs.
-pub(crate) fn first_spelled_avp(octets: &[u8]) -> Option<(AvpRef<'_>, usize)>
-    ensures within { IfSome result (λ read. read.1 ≤ length octets.now) }
-    ensures moves { IfSome result (λ read. 0 < read.1) }
-    ensures found { IfSome result (λ read.
-        members octets.now ≡ option_map (λ l. avp_of read.0 ∷ l) (members (drop read.1 octets.now))) }
-    ensures none { IfNone result ((octets.now ≡ []) ⊎ (members octets.now ≡ None)) }
-{
-    first_avp(octets)
 }
 
 /// Whether the octets are AVPs, one after the other. It never answers want of memory.

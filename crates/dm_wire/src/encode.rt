@@ -6,7 +6,7 @@ ghost use Rattle.dm_wire.specs.Limits.{IsLongList, IsLongMessage};
 
 use crate::avp_and_header_octets::{fill_with_message, header_octets, push_avp_list};
 use crate::codes::limits::HEADER_LEN;
-use crate::size::{message_avps_size, wrapping_avp_list_size};
+use crate::size::{checked_message_avps_size, wrapping_avp_list_size};
 use crate::{Avp, Message, WireFault};
 use std::alloc::Global;
 
@@ -41,7 +41,7 @@ fn header_octets_and_size(message: &Message) -> Option<([u8; 20], usize)>
     ensures spelled { IfSome result (λ sized. SpellsMessage message.now (canonical_message message.now)) }
     ensures none { IfNone result (IsLongMessage message.now) }
 {
-    let rest = message_avps_size(message.avps.as_slice())?;
+    let rest = checked_message_avps_size(message.avps.as_slice())?;
     let size = HEADER_LEN as usize + rest;
     let header = header_octets(message.header, size as u32)?;
     Some((header, size))

@@ -1,7 +1,8 @@
 //! The first AVP of octets, and the header of a message (RFC 6733, 3 and 4.1).
-ghost use Rattle.std.specs.Prelude.{◌≡◌, ◌<◌, ◌≤◌, ◌⊎◌, ◌↔◌, length, take};
-ghost use Rattle.std.specs.Prelude.{IfOk, IfErr, IfSome, IfNone, IsErrOf};
+ghost use Rattle.std.specs.Prelude.{◌≡◌, ◌<◌, ◌≤◌, ◌⊎◌, ◌↔◌, None, [], ◌∷◌, length, take, drop};
+ghost use Rattle.std.specs.Prelude.{option_map, IfOk, IfErr, IfSome, IfNone, IsErrOf};
 ghost use Rattle.dm_wire.specs.Spelling.{SpellsAvp, SpellsHeader};
+ghost use Rattle.dm_wire.specs.Members.{members};
 ghost use Rattle.dm_wire.specs.Borrowed.{avp_of};
 ghost use Rattle.dm_wire.specs.Refusal.{BeginsWithNoAvp, IsTooShort, IsOtherVersion, IsOtherLength};
 
@@ -28,6 +29,18 @@ pub fn first_avp(octets: &[u8]) -> Option<(AvpRef<'_>, usize)>
 {
     let extent = first_avp_extent(octets)?;
     Some((avp_of_extent(octets, extent), extent.size))
+}
+
+/// The first of the AVPs that the octets spell, and how many octets it takes; None where there are no octets, or they
+/// spell no AVPs.
+pub(crate) fn first_spelled_avp(octets: &[u8]) -> Option<(AvpRef<'_>, usize)>
+    ensures within { IfSome result (λ read. read.1 ≤ length octets.now) }
+    ensures moves { IfSome result (λ read. 0 < read.1) }
+    ensures found { IfSome result (λ read.
+        members octets.now ≡ option_map (λ l. avp_of read.0 ∷ l) (members (drop read.1 octets.now))) }
+    ensures none { IfNone result ((octets.now ≡ []) ⊎ (members octets.now ≡ None)) }
+{
+    first_avp(octets)
 }
 
 /// The header of the whole message that the octets are.

@@ -90,7 +90,7 @@ pub(crate) fn wrapping_avp_list_size(avps: &[Avp]) -> Option<usize>
 }
 
 /// How many octets the AVPs of a message take. `None` where the Length of one, or the Message Length, doesn't fit.
-pub(crate) fn message_avps_size(avps: &[Avp]) -> Option<usize>
+pub(crate) fn checked_message_avps_size(avps: &[Avp]) -> Option<usize>
     ensures size { IfSome result (λ n. n ≡ length (canonical_list avps.now)) }
     ensures fits { IfSome result (λ n. n ≤ MAX_REST) }
     ensures spelled { IfSome result (λ n. SpellsList avps.now (canonical_list avps.now)) }

@@ -19,7 +19,12 @@ use std::alloc::Global;
 
 impl Net {
     /// The link is lost, but for so many first octets towards A and towards B; ignored where that changes nothing.
-    fn lose_link(&mut self, conn: Conn, to_a: u32, to_b: u32) -> Result<Effect, WorldFault>
+    fn lose_link_beyond_octets(
+        &mut self,
+        conn: Conn,
+        to_a: u32,
+        to_b: u32,
+    ) -> Result<Effect, WorldFault>
         ensures step { IfOk result (λ effect. Effects effect
             (happens octet_peers (as_world self.old) (Loses conn.0 to_a to_b)) (as_world self.old)
             (as_world self.new)) }
@@ -31,7 +36,7 @@ impl Net {
         if self.links[index].ignores_loss() {
             return Ok(Effect::Ignored);
         }
-        self.links[index].lose_messages_beyond(to_a, to_b);
+        self.links[index].lose_messages_beyond_octets(to_a, to_b);
         Ok(Effect::Done)
     }
 
@@ -83,7 +88,7 @@ impl Net {
             Happening::Nack(conn) => self.nack_connect(alloc, *conn),
             Happening::Deliver(conn, side) => self.deliver_next(alloc, *conn, *side),
             Happening::Piece(conn, side, count) => self.deliver_piece(alloc, *conn, *side, *count),
-            Happening::Lose(conn, to_a, to_b) => self.lose_link(*conn, *to_a, *to_b),
+            Happening::Lose(conn, to_a, to_b) => self.lose_link_beyond_octets(*conn, *to_a, *to_b),
             Happening::Submit(side, octets) => Ok(self.submit(alloc, *side, octets.as_slice())?),
         }
     }

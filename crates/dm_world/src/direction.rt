@@ -243,7 +243,7 @@ impl Direction {
     /// Keeps the messages that lie wholly in so many of the octets to come, and puts a disconnect behind them. A front
     /// message that goes takes its octets with it that were delivered. Where the disconnect was delivered, nothing
     /// changes.
-    pub(crate) fn lose_messages_beyond(&mut self, kept: u32)
+    pub(crate) fn lose_messages_beyond_octets(&mut self, kept: u32)
         ensures { self.new.direction ≡ lost length kept self.old.direction }
     {
         match self.mark {

@@ -57,7 +57,7 @@ pub(crate) fn receive_event_on_link(
 }
 
 /// Does one action of the side's peer on the links: a Send or a Close. A Connect and an Up ask nothing of them.
-fn perform_one_action(links: &mut Vec<Link>, side: Side, action: Action)
+fn perform_send_or_close(links: &mut Vec<Link>, side: Side, action: Action)
     requires room { (c : ℕ) → IsTrue (sends_at c (deed_in (as_action action) ∷ [])) →
         HasRoom (as_side side) links.old.items 1 c }
     requires frames { SendFrames (as_action action ∷ []) }
@@ -74,14 +74,14 @@ fn perform_one_action(links: &mut Vec<Link>, side: Side, action: Action)
 }
 
 /// Does the actions of the side's peer on the links, in order: its Sends and Closes.
-pub(crate) fn perform_actions(links: &mut Vec<Link>, side: Side, mut actions: Actions)
+pub(crate) fn perform_sends_and_closes(links: &mut Vec<Link>, side: Side, mut actions: Actions)
     requires room { HasRoomFor (as_side side) links.old.items (as_actions actions.items) }
     requires frames { SendFrames (as_actions actions.items) }
     ensures { as_links links.new.items
         ≡ perform (as_side side) (as_actions actions.items) (as_links links.old.items) }
 {
     while let Some(action) = actions.pop_at(0) {
-        perform_one_action(links, side, action);
+        perform_send_or_close(links, side, action);
     }
 }
 
@@ -103,7 +103,7 @@ pub(crate) fn follow_event_on_links(
         (as_links links.old.items) }
 {
     receive_event_on_link(links, side, event, framer);
-    perform_actions(links, side, actions);
+    perform_sends_and_closes(links, side, actions);
     if let Event::Arrived(conn, _) = event {
         links::open_or_shut_fresh_end_at(links, side, conn.0 as usize, holds(peer, conn));
     }

@@ -248,24 +248,24 @@ impl Link {
 
     /// The link is lost: of the messages to come towards A and towards B those stay that lie wholly in so many first
     /// octets of them.
-    pub(crate) fn lose_messages_beyond(&mut self, to_a: u32, to_b: u32)
+    pub(crate) fn lose_messages_beyond_octets(&mut self, to_a: u32, to_b: u32)
         ensures { as_link self.new ≡ lost_link length to_a to_b (as_link self.old) }
     {
         match self.opener {
             Side::A => {
-                self.to_opener.lose_messages_beyond(to_a);
-                self.to_other.lose_messages_beyond(to_b);
+                self.to_opener.lose_messages_beyond_octets(to_a);
+                self.to_other.lose_messages_beyond_octets(to_b);
             }
             Side::B => {
-                self.to_opener.lose_messages_beyond(to_b);
-                self.to_other.lose_messages_beyond(to_a);
+                self.to_opener.lose_messages_beyond_octets(to_b);
+                self.to_other.lose_messages_beyond_octets(to_a);
             }
         }
     }
 
     /// The side starts anew: it closes the link, and cancels a connect that it asked for; one that the other side asked
     /// for stays pending.
-    pub(crate) fn close_at_restart(&mut self, side: Side)
+    pub(crate) fn close_unless_other_is_connecting(&mut self, side: Side)
         ensures { as_link self.new ≡ restart_link (as_side side) (as_link self.old) }
     {
         let mine = self.is_opener(side);

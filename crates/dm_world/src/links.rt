@@ -79,12 +79,12 @@ pub(crate) fn open_or_shut_fresh_end_at(
     }
 }
 
-/// The side starts anew, as far as the link goes.
+/// The side starts anew, as far as the link goes, if there is one.
 pub(crate) fn close_link_at_restart(links: &mut Vec<Link>, side: Side, index: usize)
     ensures { as_links links.new.items ≡ change_at index (restart_link (as_side side)) (as_links links.old.items) }
 {
     if index < links.len() {
-        links[index].close_at_restart(side);
+        links[index].close_unless_other_is_connecting(side);
     }
 }
 

@@ -20,7 +20,7 @@ use crate::rooms::make_room_for_sends;
 use crate::{Effect, Side, WorldFault};
 use dm_dict::NoMemory;
 use dm_framer::Framer;
-use dm_machine::laws::{given_up_is_closed_others_left_alone, steps_keep_shape_in_few_commands};
+use dm_machine::laws::{given_up_is_closed_unnamed_stays_unheld, steps_keep_shape_in_few_commands};
 use dm_octet_peers::laws::{every_message_sent_is_a_frame, octet_peers_move_as_the_machine};
 use dm_peer::{Actions, Conn, Event};
 use std::alloc::Global;
@@ -66,7 +66,7 @@ impl Net {
     {
         octet_peers_move_as_the_machine();
         every_message_sent_is_a_frame();
-        given_up_is_closed_others_left_alone();
+        given_up_is_closed_unnamed_stays_unheld();
         steps_keep_shape_in_few_commands();
         if !self.pair.side_state_takes_event(side, event) {
             return Ok(None);

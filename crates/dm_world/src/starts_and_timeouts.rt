@@ -7,7 +7,7 @@ ghost use Rattle.dm_world.specs.InPlace.{is_closed_state};
 ghost use Rattle.dm_world.specs.Seen.{as_side};
 ghost use Rattle.dm_world.specs.Views.{as_world, Effects};
 
-use crate::events_on_links::perform_actions;
+use crate::events_on_links::perform_sends_and_closes;
 use crate::link::Link;
 use crate::net::Net;
 use crate::{Effect, Side};
@@ -39,7 +39,7 @@ impl Net {
             None => Ok(Effect::Ignored),
             Some(actions) => {
                 self.links.push_reserved(Link::new(alloc, side));
-                perform_actions(&mut self.links, side, actions);
+                perform_sends_and_closes(&mut self.links, side, actions);
                 Ok(Effect::Done)
             }
         }
@@ -55,7 +55,7 @@ impl Net {
         match self.pair.ask_side(alloc, side, Event::Timeout) {
             Ok(None) => Effect::Ignored,
             Ok(Some(actions)) => {
-                perform_actions(&mut self.links, side, actions);
+                perform_sends_and_closes(&mut self.links, side, actions);
                 Effect::Done
             }
             Err(_) => unreachable!(),

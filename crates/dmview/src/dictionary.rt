@@ -39,7 +39,7 @@ pub fn dictionary_of_files(
     }
     let mut text = Vec::new(rt.alloc());
     let mut ends = Vec::new(rt.alloc());
-    let done = push_version_texts_and_ends(names, files, &mut text, &mut ends);
+    let done = push_versioned_text_and_ends(names, files, &mut text, &mut ends);
     done?;
     match dictionary_over_base(rt.alloc(), text.as_slice()) {
         Ok(dictionary) => Ok(dictionary),
@@ -49,7 +49,7 @@ pub fn dictionary_of_files(
 
 /// Appends the texts of the files as one text of version 2, whose version stands before the first line, and where each
 /// ends.
-fn push_version_texts_and_ends(
+fn push_versioned_text_and_ends(
     names: &[&str],
     files: Vec<File>,
     text: &mut Vec<u8>,

@@ -52,8 +52,9 @@ pub fn file_with_front(front: VecDeque<u8>, file: File) -> Opened {
     front.chain(file)
 }
 
-/// The lines of all files, one after the other; of the first one these octets were read.
-pub fn joined_files(
+/// The lines of all files, one after the other, with a line feed behind the last one of a file that lacks it; of the
+/// first file these octets were read.
+pub fn files_joined_as_lines(
     alloc: Global,
     front: VecDeque<u8>,
     files: VecDeque<File>,
@@ -93,7 +94,8 @@ fn read_whether_first_file_is_capture(
     is_capture_front(rt.alloc(), octets.as_slice()).context("dmview")
 }
 
-/// Whether the input is captures: where that is said, or the first file begins as one and nothing else is said.
+/// Whether the input is captures: where an option says so, or none says else and the first file that is named begins as
+/// one. Standard input isn't looked at.
 pub fn are_captures(
     rt: &HostRuntime,
     matches: &ArgMatches<'_>,

@@ -21,7 +21,7 @@ use crate::capture::{
 use crate::command::command_line;
 use crate::dictionary::dictionary_of_files;
 use crate::input::{
-    are_captures, file_with_front, joined_files, open_dictionary_files, open_input_files,
+    are_captures, file_with_front, files_joined_as_lines, open_dictionary_files, open_input_files,
 };
 use crate::output::say_lines_or_stream;
 use anyhow::{Context, Error, Result};
@@ -166,7 +166,7 @@ fn say_input(
             rt, dictionary, style, is_stream,
         ),
         (InputKind::Lines { is_stream }, false) => {
-            let inputs = joined_files(rt.alloc(), front, files)?;
+            let inputs = files_joined_as_lines(rt.alloc(), front, files)?;
             say_hexadecimal_inputs(rt, dictionary, style, is_stream, inputs, names)
         }
         (InputKind::Captures(looks), true) => {

@@ -10,7 +10,7 @@ mod happened;
 mod nodes;
 mod server;
 
-use crate::nodes::{node_of, open_to_ten};
+use crate::nodes::{node_of, strangers_up_to_ten};
 use crate::server::serve;
 use anyhow::{Result, bail};
 use dm_node::{Alone, Answer};
@@ -24,7 +24,10 @@ fn serve_two(rt: &(impl Input + Print + AllocGlobal), answer: &mut Answer) -> Re
 }
 
 /// One peer, which is told whatever strangers send.
-fn serve_alone(rt: &(impl Input + Print + AllocGlobal), answer: &mut Answer) -> Result<()> {
+fn serve_one_told_of_strangers(
+    rt: &(impl Input + Print + AllocGlobal),
+    answer: &mut Answer,
+) -> Result<()> {
     let mut node = node_of(rt.alloc(), &[b"b.example"])?;
     let served = serve(rt, &Alone, &mut node, answer);
     drop(node);
@@ -32,10 +35,13 @@ fn serve_alone(rt: &(impl Input + Print + AllocGlobal), answer: &mut Answer) -> 
 }
 
 /// A policy for strangers: each is taken in, while there are less than ten.
-fn serve_open(rt: &(impl Input + Print + AllocGlobal), answer: &mut Answer) -> Result<()> {
-    let open = open_to_ten(rt.alloc())?;
+fn serve_strangers_up_to_ten(
+    rt: &(impl Input + Print + AllocGlobal),
+    answer: &mut Answer,
+) -> Result<()> {
+    let strangers = strangers_up_to_ten(rt.alloc())?;
     let mut node = node_of(rt.alloc(), &[])?;
-    let served = serve(rt, &open, &mut node, answer);
+    let served = serve(rt, &strangers, &mut node, answer);
     drop(node);
     served
 }
@@ -46,8 +52,8 @@ fn main(rt: HostRuntime) -> Result<()> {
     rt.read_line(&mut first)?;
     match first.trim() {
         "two" => serve_two(&rt, &mut answer),
-        "one" => serve_alone(&rt, &mut answer),
-        "open" => serve_open(&rt, &mut answer),
+        "one" => serve_one_told_of_strangers(&rt, &mut answer),
+        "open" => serve_strangers_up_to_ten(&rt, &mut answer),
         _ => bail!("the first line is two, one or open"),
     }
 }

@@ -31,6 +31,6 @@ pub fn node_of(alloc: Global, hosts: &[&[u8]]) -> Result<Node> {
 }
 
 /// Takes in each host that calls, until there are ten neighbours.
-pub fn open_to_ten(alloc: Global) -> Result<Open> {
+pub fn strangers_up_to_ten(alloc: Global) -> Result<Open> {
     Ok(Open::new(config_template(alloc)?, 10))
 }

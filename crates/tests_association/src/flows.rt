@@ -54,7 +54,7 @@ pub(crate) fn push_message(
 fn take(flow: &mut SctpFlow, text: &mut Vec<u8>, step: &Step) -> Result<(), AllocError> {
     match step {
         Begin(tsn) => flow.begin_association(*tsn),
-        End => flow.end_association(),
+        End => flow.leave_association(),
         Data(tsn, bits, stream, protocol, octets) => {
             let chunk = chunk_of(*tsn, bits, *stream, *protocol, octets.as_bytes());
             push_message(flow, text, chunk)?;

@@ -17,11 +17,17 @@ fn two_added(alloc: Global, associations: &mut Associations) -> Result<(), Alloc
     associations.add_unless_held(ends_of(1, 3868))?;
     associations.add_unless_held(ends_of(2, 3868))?;
     let whole = octets_of(alloc, Chunks::Data(10, "BE", 46, "abc"))?;
-    let heard = associations.take_if_held(ends_of(2, 3868), packet_of(2, 3868, 9, &whole));
+    let heard = associations.take_if_held_in_this_order(
+        ends_of(2, 3868),
+        packet_of(2, 3868, 9, &whole),
+    );
     drop(whole);
     heard?;
     let part = octets_of(alloc, Chunks::Data(11, "B", 46, "de"))?;
-    let heard = associations.take_if_held(ends_of(2, 3868), packet_of(2, 3868, 9, &part));
+    let heard = associations.take_if_held_in_this_order(
+        ends_of(2, 3868),
+        packet_of(2, 3868, 9, &part),
+    );
     drop(part);
     heard
 }

@@ -62,7 +62,7 @@ fn told(alloc: Global, octets: &[u8], piece: usize) -> Result<String, AllocError
         }
         rest = more;
     }
-    match reader.check_is_whole_file() {
+    match reader.check_whole_file_was_read() {
         Ok(()) => text.push_str("whole\n")?,
         Err(fault) => put_fault(alloc, &mut text, fault)?,
     }

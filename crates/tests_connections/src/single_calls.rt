@@ -18,8 +18,8 @@ fn two_added(alloc: Global, connections: &mut Connections) -> Result<(), AllocEr
     let behind = segment_of(&(2, 3868, "", 140, 40, 60, ""), &stream);
     connections.add_unless_held(ends_of(1, 3868))?;
     connections.add_unless_held(ends_of(2, 3868))?;
-    connections.take_if_held(ends_of(2, 3868), syn)?;
-    connections.take_if_held(ends_of(2, 3868), behind)
+    connections.take_if_held_in_this_order(ends_of(2, 3868), syn)?;
+    connections.take_if_held_in_this_order(ends_of(2, 3868), behind)
 }
 
 fn past(connections: &Connections, most: usize, octets: u64) -> bool {

@@ -19,7 +19,7 @@ use Step::{Fin, Octets, Reset, Syn};
 /// Appends a letter for each message that is handed out.
 fn put_messages(flow: &mut Flow, text: &mut String) -> Result<(), AllocError> {
     for _ in 0..100 {
-        match flow.next_message()? {
+        match flow.next_message_or_leave_stream()? {
             Some(message) => {
                 text.push(letter_of(&message))?;
                 drop(message);

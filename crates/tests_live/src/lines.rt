@@ -1,7 +1,7 @@
 //! Orders in lines to a peer alone, answered over its node.
 
 use crate::single::alone;
-use dm_live::{Form, answer_order_or_piece, read_order_line};
+use dm_live::{Form, answer_asked_without_dot, read_order_line};
 use dm_node::{Acquaintance, Answer, Node};
 use std::process::Abort;
 
@@ -19,7 +19,7 @@ fn answer(rt: &(impl Abort + AllocGlobal), node: &mut Node, line: &str, text: &m
         rt, "memory",
     ) {
         let mut lent = Answer::new();
-        let done = answer_order_or_piece(
+        let done = answer_asked_without_dot(
             rt.alloc(),
             Form::Alone,
             node,

@@ -1,7 +1,7 @@
 //! Orders to a node in lines, answered over it.
 
 use crate::nodes::three;
-use dm_live::{Form, answer_order_or_piece, read_order_line};
+use dm_live::{Form, answer_asked_without_dot, read_order_line};
 use dm_node::{Answer, Node};
 use std::process::Abort;
 
@@ -20,7 +20,7 @@ fn answer(rt: &(impl Abort + AllocGlobal), node: &mut Node, line: &str, text: &m
         rt, "memory",
     ) {
         let mut lent = Answer::new();
-        let done = answer_order_or_piece(
+        let done = answer_asked_without_dot(
             rt.alloc(),
             Form::Several,
             node,

@@ -1,6 +1,6 @@
 //! The room that an answer takes: that of the same text appended a piece after the other, so at most twice its octets.
 use crate::single::{CER_OF_B, alone};
-use dm_live::{Form, answer_order_or_piece, read_order_line};
+use dm_live::{Form, answer_asked_without_dot, read_order_line};
 use dm_node::{Answer, Node};
 use dm_text::Hexadecimal;
 use std::process::Abort;
@@ -26,7 +26,7 @@ fn answer(rt: &(impl Abort + AllocGlobal), node: &mut Node, line: &str, text: &m
         rt, "memory",
     ) {
         let mut lent = Answer::new();
-        let done = answer_order_or_piece(
+        let done = answer_asked_without_dot(
             rt.alloc(),
             Form::Alone,
             node,

@@ -2,7 +2,7 @@
 use crate::each::each_made;
 use crate::rows::*;
 use dm_dict::{DictFault, Dictionary, NoMemory, Verdict};
-use dm_refusal::{Making, refuse_each_request, refuse_nth_request};
+use dm_refusal::{Making, refuse_each_request, stop_refusing};
 use dm_wire::Message;
 use std::alloc::Global;
 use std::process::Abort;
@@ -350,7 +350,7 @@ fn long_rule_checked(rt: HostRuntime) {
     let message = Message::decode(rt.alloc(), octets.as_slice()).expect(&rt, "a message");
     refuse_each_request(rt.alloc());
     let checked = dictionary.check(rt.alloc(), &message);
-    refuse_nth_request(rt.alloc(), 0);
+    stop_refusing(rt.alloc());
     assert!(&rt; checked == Ok(Verdict::Good));
     drop(message);
     drop(dictionary);

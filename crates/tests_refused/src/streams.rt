@@ -3,7 +3,7 @@ use crate::each::{each, each_made};
 use crate::rows::{WATCHDOG, octets};
 use dm_refusal::{
     End, Making, Subject, end_of_answered_call, end_of_repeated_call, refuse_nth_request,
-    was_request_larger_than, was_request_refused_and_stop, worse_end,
+    stop_refusing, was_request_larger_than, was_request_refused_and_stop, worse_end,
 };
 use dm_wire::{FrameFault, Framer};
 use std::alloc::Global;
@@ -202,7 +202,7 @@ fn comes(framer: &mut Framer, row: &[u8], count: u32) -> u32 {
 fn a_long_stream_takes_little(rt: HostRuntime) {
     let row = octets(&rt, WATCHDOG);
     let mut framer = Framer::new(rt.alloc(), GREATEST);
-    refuse_nth_request(rt.alloc(), 0);
+    stop_refusing(rt.alloc());
     let came = comes(&mut framer, row.as_slice(), 10_000);
     let larger = was_request_larger_than(rt.alloc(), 1000);
     drop(framer);

@@ -9,14 +9,14 @@ pub returns-then-chunk_begins_exchange_request : goal.returns-then-chunk_begins_
 returns-then-chunk_begins_exchange_request c =
     let has : HasData c.chunks.chunk-iterator (data_seen c.in-Some.chunk) c.next.new.self = c.in-Some.ensures.steps in
     let begins = c.if-chunk_begins_exchange_request.ensures.0 refl in
-    ((λ _. c.chunks.invariant.1 (begins_here c.data_chunks_make_one_list.ensures.some _ _ c.next.new.self has begins)), (λ _. refl))
+    ((λ _. c.chunks.invariant.1 (begins_here c.packets_have_one_data_list.ensures.some _ _ c.next.new.self has begins)), (λ _. refl))
 
 pub chunks-preserved : goal.chunks-preserved
 chunks-preserved c =
     let has : HasData c.chunks.chunk-iterator (data_seen c.in-Some.chunk) c.next.new.self = c.in-Some.ensures.steps in
     let not : ChunkBeginsExchange (data_seen c.in-Some.chunk) → ⊥ =
     λ begins. let no = c.if-chunk_begins_exchange_request.ensures.1 begins in cc in (
-      (λ begins. begins_behind c.data_chunks_make_one_list.ensures.one c.data_chunks_make_one_list.ensures.some _ _ c.next.new.self has not
+      (λ begins. begins_behind c.packets_have_one_data_list.ensures.one c.packets_have_one_data_list.ensures.some _ _ c.next.new.self has not
           (c.chunks.invariant.0 begins)),
       (λ begins. c.chunks.invariant.1 (begins_later _ _ c.next.new.self has begins)),
     )
@@ -24,4 +24,4 @@ chunks-preserved c =
 pub returns : goal.returns
 returns c =
     let none : HasNoData c.chunks.chunk-iterator = c.in-None.ensures.steps.0 in
-    ((λ no. cc), (λ begins. absurd (begins_nowhere c.data_chunks_make_one_list.ensures.one _ none (c.chunks.invariant.0 begins))))
+    ((λ no. cc), (λ begins. absurd (begins_nowhere c.packets_have_one_data_list.ensures.one _ none (c.chunks.invariant.0 begins))))

@@ -16,29 +16,29 @@ pub returns-in-Err : goal.returns-in-Err
 returns-in-Err g c =
     refused _ c.piece.capture c.next.new.self _ _ _ c.piece.invariant (c.in-Err.ensures.hands c.piece.invariant.fault)
 
-pub returns-in_err-feed_from_reader : goal.returns-in_err-feed_from_reader
-returns-in_err-feed_from_reader g c =
+pub returns-in_err-is_reader_ended_else_feed : goal.returns-in_err-is_reader_ended_else_feed
+returns-in_err-is_reader_ended_else_feed g c =
     let said = rw c.in-Ok-None.field-0-is at c.in-Ok-None.ensures.hands in
     let further = ongoing_passed _ c.piece.capture c.next.new.self _ _ c.piece.invariant
     (said c.piece.invariant.fault) in
-    handed_on (HandsFrom _ _ _ _) c.from_residual.result c.in_err-feed_from_reader.field-0.0 c.from_residual.ensures.1
-    (not_fed _ c.next.new.self c.feed_from_reader.new.capture _ _ _ _ further c.in_err-feed_from_reader.ensures.none)
+    handed_on (HandsFrom _ _ _ _) c.from_residual.result c.in_err-is_reader_ended_else_feed.field-0.0 c.from_residual.ensures.1
+    (not_fed _ c.next.new.self c.is_reader_ended_else_feed.new.capture _ _ _ _ further c.in_err-is_reader_ended_else_feed.ensures.none)
 
 pub returns-then-branch : goal.returns-then-branch
 returns-then-branch g c =
     let said = rw c.in-Ok-None.field-0-is at c.in-Ok-None.ensures.hands in
     let further = ongoing_passed _ c.piece.capture c.next.new.self _ _ c.piece.invariant
     (said c.piece.invariant.fault) in
-    ended _ c.next.new.self c.feed_from_reader.new.capture _ _ _ c.none_or_fault_at_end.result further
+    ended _ c.next.new.self c.is_reader_ended_else_feed.new.capture _ _ _ c.none_or_fault_at_end.result further
     ((said c.piece.invariant.fault).3)
-    (subst (FeedsPiece _ _ _ _) c.if-branch.true c.in_ok-feed_from_reader.ensures.fed) c.none_or_fault_at_end.ensures
+    (subst (FeedsPiece _ _ _ _) c.if-branch.true c.in_ok-is_reader_ended_else_feed.ensures.fed) c.none_or_fault_at_end.ensures
 
 pub piece-preserved : goal.piece-preserved
 piece-preserved g c =
     let said = rw c.in-Ok-None.field-0-is at c.in-Ok-None.ensures.hands in
     let further = ongoing_passed _ c.piece.capture c.next.new.self _ _ c.piece.invariant
     (said c.piece.invariant.fault) in
-    ongoing_fed _ c.next.new.self c.feed_from_reader.new.capture _ _ _ _ further c.in_ok-feed_from_reader.ensures.fed
+    ongoing_fed _ c.next.new.self c.is_reader_ended_else_feed.new.capture _ _ _ _ further c.in_ok-is_reader_ended_else_feed.ensures.fed
 
 pub returns : goal.returns
 returns g c = still _ _ _ _ c.piece.invariant

@@ -11,11 +11,11 @@ use Rattle.dm_dict.proofs.occurrences.count_group_occurrence.Goals as goal
 pub returns-then-is_group_at-clause-nth : goal.returns-then-is_group_at-clause-nth
 returns-then-is_group_at-clause-nth c =
     let avps = c.args.dictionary.now.tables.avps.items in
-    under_ok c.count_nth_of_code_and_vendor.result _ _
+    under_ok c.increment_code_and_vendor_count.result _ _
     (λ nth next p fits numbered wanted.
     next (number_fits (option_copied c.args.path) avps p (avp_of c.args.avp) _ 18446744073709551616 fits wanted numbered)
     ∙ ap (λ n. n + 1) (numbered (avp_of c.args.avp) wanted))
-    c.count_nth_of_code_and_vendor.ensures.nth
+    c.increment_code_and_vendor_count.ensures.nth
 
 pub returns-then-is_group_at-clause-counted : goal.returns-then-is_group_at-clause-counted
 returns-then-is_group_at-clause-counted c =
@@ -23,12 +23,12 @@ returns-then-is_group_at-clause-counted c =
     let path = option_copied c.args.path in
     let wanted : is_wanted path (definition avps (avp_of c.args.avp)) ≡ true
     = rw (c.in-Some.is, ← c.requires.def) (sym (c.is_group_at.ensures c.in-Some.field-0.now) ∙ c.if-is_group_at.true) in
-    once_ok c.count_nth_of_code_and_vendor.result _
+    once_ok c.increment_code_and_vendor_count.result _
     (λ nth known p fits numbered.
-    wanted_one path avps p (avp_of c.args.avp) c.args.numbers.now.entries c.count_nth_of_code_and_vendor.new.numbers.entries nth
+    wanted_one path avps p (avp_of c.args.avp) c.args.numbers.now.entries c.increment_code_and_vendor_count.new.numbers.entries nth
     (known.0 (number_fits path avps p (avp_of c.args.avp) _ 18446744073709551616 fits wanted numbered))
     known.1 numbered)
-    (both_ok c.count_nth_of_code_and_vendor.result _ _ c.count_nth_of_code_and_vendor.ensures.nth c.count_nth_of_code_and_vendor.ensures.counted)
+    (both_ok c.increment_code_and_vendor_count.result _ _ c.increment_code_and_vendor_count.ensures.nth c.increment_code_and_vendor_count.ensures.counted)
 
 pub returns-clause-nth : goal.returns-clause-nth
 returns-clause-nth c = λ p fits numbered wanted.

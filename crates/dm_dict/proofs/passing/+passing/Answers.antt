@@ -90,14 +90,14 @@ pass_spelled_avps_until_no_row-loop-avp-preserved t c =
       omega arith,
     )
 
-pub pass_spelled_avp_without_row-returns-then-pass_undefined_optional_avp-clause-passed : goal.pass_spelled_avp_without_row-returns-then-pass_undefined_optional_avp-clause-passed
-pass_spelled_avp_without_row-returns-then-pass_undefined_optional_avp-clause-passed t c =
+pub pass_spelled_avp_without_row-returns-then-pass_unmarked_nonmandatory_avp-clause-passed : goal.pass_spelled_avp_without_row-returns-then-pass_unmarked_nonmandatory_avp-clause-passed
+pass_spelled_avp_without_row-returns-then-pass_unmarked_nonmandatory_avp-clause-passed t c =
     let s = c.args.octets.now in
     let n = c.in-Some.size in
     let a = avp_of c.in-Some.avp in (
       λ m. a ∷ m,
       λ m h. (take n s, _, rw (take_rest s n) (sym (take-append-drop n s)), c.in-Some.ensures.found, h),
-      λ l m before. c.pass_undefined_optional_avp.ensures.passed c.if-pass_undefined_optional_avp.true c.args.groups_allowed l
+      λ l m before. c.pass_unmarked_nonmandatory_avp.ensures.passed c.if-pass_unmarked_nonmandatory_avp.true c.args.groups_allowed l
           (a ∷ m) m before refl,
     )
 
@@ -109,7 +109,7 @@ pass_spelled_avp_without_row-returns-then-pass_looked_up_avp-clause-passed t c =
       λ m. a ∷ m,
       λ m h. (take n s, _, rw (take_rest s n) (sym (take-append-drop n s)), c.in-Some.ensures.found, h),
       λ l m before. c.pass_looked_up_avp.ensures.passed c.if-pass_looked_up_avp.true l (a ∷ m) m
-          (rw (c.pass_undefined_optional_avp.ensures.same c.if-pass_undefined_optional_avp.false) before) refl,
+          (rw (c.pass_unmarked_nonmandatory_avp.ensures.same c.if-pass_unmarked_nonmandatory_avp.false) before) refl,
     )
 
 pub pass_spelled_avps-loop-behind-init : goal.pass_spelled_avps-loop-behind-init

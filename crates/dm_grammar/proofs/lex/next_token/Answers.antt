@@ -9,8 +9,8 @@ use Rattle.dm_grammar.proofs.lex.next_token.Goals as goal
 
 pub loop-at-preserved : goal.loop-at-preserved
 loop-at-preserved c =
-    let len : c.len_to_line_end-at.result ≡ prefix_len not_line_end
-    (drop c.loop-at.at c.args.text.now) = rw take_rest at c.len_to_line_end-at.ensures.value in
+    let len : c.len_before_line_feed-at.result ≡ prefix_len not_line_end
+    (drop c.loop-at.at c.args.text.now) = rw take_rest at c.len_before_line_feed-at.ensures.value in
     record {
       within = omega arith;
       ahead = omega arith;

@@ -8,9 +8,9 @@ returns c =
       changes = c.connection_changes_and_orders_are_allowed.ensures;
       fresh = c.each_event_keeps_peers_settled.ensures.fresh;
       kept = c.each_event_keeps_peers_settled.ensures.kept;
-      closed = c.given_up_is_closed_others_left_alone.ensures.closed;
-      alone = c.given_up_is_closed_others_left_alone.ensures.alone;
-      last = c.given_up_is_closed_others_left_alone.ensures.last;
+      closed = c.given_up_is_closed_unnamed_stays_unheld.ensures.closed;
+      alone = c.given_up_is_closed_unnamed_stays_unheld.ensures.alone;
+      last = c.given_up_is_closed_unnamed_stays_unheld.ensures.last;
       orders = c.connection_orders_are_its_commands.ensures.order;
     } in
     record { last = ended_is_last laws; behind = nothing_follows laws }

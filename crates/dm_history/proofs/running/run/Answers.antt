@@ -8,13 +8,13 @@ returns-clause-history c =
 
 pub returns-clause-in_order : goal.returns-clause-in_order
 returns-clause-in_order c =
-    c.runs_hand_up_all_in_order.ensures c.args.peer.now _ c.tell_events_while_memory_lasts.new.peer c.every_peer_is_settled_with_fitting_numbers.ensures.settled
+    c.runs_hand_up_all_in_order.ensures c.args.peer.now _ c.tell_events_while_memory_lasts.new.peer c.peers_are_settled_with_encodable_numbers.ensures.settled
     (replied_lived _ _ _ _ c.tell_events_while_memory_lasts.ensures.replied)
 
 pub returns-clause-sent : goal.returns-clause-sent
 returns-clause-sent c =
     c.each_done_submit_is_sent_once.ensures.throughout c.args.peer.now _ c.tell_events_while_memory_lasts.new.peer
-    c.every_peer_is_settled_with_fitting_numbers.ensures.settled
+    c.peers_are_settled_with_encodable_numbers.ensures.settled
     (replied_lived _ _ _ _ c.tell_events_while_memory_lasts.ensures.replied)
 
 pub returns-clause-opened : goal.returns-clause-opened
@@ -24,7 +24,7 @@ returns-clause-opened c =
 
 pub returns-clause-carried : goal.returns-clause-carried
 returns-clause-carried c =
-    carries_through c.each_run_carries_user_messages.ensures c.args.peer.now c.tell_events_while_memory_lasts.new.peer _
+    carries_through c.user_messages_have_submits_or_arrivals.ensures c.args.peer.now c.tell_events_while_memory_lasts.new.peer _
     (replied_lived _ _ _ _ c.tell_events_while_memory_lasts.ensures.replied)
 
 pub returns-clause-closed : goal.returns-clause-closed
@@ -40,11 +40,11 @@ returns-clause-ended c =
 pub returns-clause-stays : goal.returns-clause-stays
 returns-clause-stays c =
     λ d opened none.
-    c.only_listed_events_end_open_connections.ensures.lasts c.args.peer.now _ c.tell_events_while_memory_lasts.new.peer d c.every_peer_is_settled_with_fitting_numbers.ensures.settled
+    c.only_listed_events_end_open_connections.ensures.lasts c.args.peer.now _ c.tell_events_while_memory_lasts.new.peer d c.peers_are_settled_with_encodable_numbers.ensures.settled
     (replied_lived _ _ _ _ c.tell_events_while_memory_lasts.ensures.replied) opened none
 
 pub returns-clause-counted : goal.returns-clause-counted
 returns-clause-counted c =
     λ d opened.
-    c.watchdogs_count_ticks_since_something_came.ensures c.args.peer.now _ c.tell_events_while_memory_lasts.new.peer d c.every_peer_is_settled_with_fitting_numbers.ensures.settled
+    c.watchdogs_count_ticks_since_something_came.ensures c.args.peer.now _ c.tell_events_while_memory_lasts.new.peer d c.peers_are_settled_with_encodable_numbers.ensures.settled
     (replied_lived _ _ _ _ c.tell_events_while_memory_lasts.ensures.replied) opened

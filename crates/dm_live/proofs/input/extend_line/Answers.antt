@@ -5,8 +5,8 @@ use Rattle.dm_live.proofs.input.extend_line.Goals as goal
 
 pub returns-in-Err-clause-taken : goal.returns-in-Err-clause-taken
 returns-in-Err-clause-taken g c =
-    took_none_anyway c.fault_unless_interrupted.result _ _ c.args.line.now.items c.fill_buf.follows.holds-at-none.0
-    c.fault_unless_interrupted.ensures.again
+    took_none_anyway c.false_if_interrupted_else_fault.result _ _ c.args.line.now.items c.fill_buf.follows.holds-at-none.0
+    c.false_if_interrupted_else_fault.ensures.again
 
 pub returns-clause-taken : goal.returns-clause-taken
 returns-clause-taken g c =

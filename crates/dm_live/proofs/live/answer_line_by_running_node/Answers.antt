@@ -8,12 +8,12 @@ use Rattle.dm_live.proofs.Options.{none-holds}
 use Rattle.dm_live.proofs.Stages.{told_line, untold_line}
 use Rattle.dm_live.proofs.live.answer_line_by_running_node.Goals as goal
 
-pub returns-in_ok-answer_order_or_piece-in-Some-2 : goal.returns-in_ok-answer_order_or_piece-in-Some-2
-returns-in_ok-answer_order_or_piece-in-Some-2 c =
+pub returns-in_ok-answer_asked_without_dot-in-Some-2 : goal.returns-in_ok-answer_asked_without_dot-in-Some-2
+returns-in_ok-answer_asked_without_dot-in-Some-2 c =
     let Read : Option OrderLine → Type 0 = λ read. MatchOption read
     ((o : Asked) → TellsOrder c.args.form (node_asked o) c.args.line.now → ⊥)
     (λ o. TellsOrder c.args.form (told_order o) c.args.line.now) in
-    let answered = c.in_ok-answer_order_or_piece-in-Some-2.ensures in
+    let answered = c.in_ok-answer_asked_without_dot-in-Some-2.ensures in
     told_line _ c.args.number c.args.form _ (told_order c.in-Some-2.order) c.args.line.now _ _ _ _ _ _
     (subst Read c.in-Some-2.is c.in_ok-order.ensures) c.as_order_or_piece.ensures answered.1 answered.2
     c.push_str-in-Some-2.ensures.bytes

@@ -10,10 +10,10 @@ returns-clause-once c = λ policy d s t u turns others sound h out k also.
       step = c.done_events_are_steps_or_drops.ensures;
       fresh = c.each_event_keeps_peers_settled.ensures.fresh;
       settled = c.each_event_keeps_peers_settled.ensures.kept;
-      alone = c.given_up_is_closed_others_left_alone.ensures.alone;
-      gives_up = c.given_up_is_closed_others_left_alone.ensures.closed;
+      alone = c.given_up_is_closed_unnamed_stays_unheld.ensures.alone;
+      gives_up = c.given_up_is_closed_unnamed_stays_unheld.ensures.closed;
     } in
-    told_out_once c.frame_or_fault_excludes_others.ensures.frame c.frame_or_fault_excludes_others.ensures.either laws policy d s t u turns others
+    told_out_once c.one_front_frame_or_lasting_fault.ensures.frame c.one_front_frame_or_lasting_fault.ensures.either laws policy d s t u turns others
     (wholly s.peers sound) h out k also
 
 pub returns-clause-cut : goal.returns-clause-cut
@@ -22,11 +22,11 @@ returns-clause-cut c = λ policy d piece more s m t u first others whole sound h
       step = c.done_events_are_steps_or_drops.ensures;
       fresh = c.each_event_keeps_peers_settled.ensures.fresh;
       settled = c.each_event_keeps_peers_settled.ensures.kept;
-      alone = c.given_up_is_closed_others_left_alone.ensures.alone;
-      gives_up = c.given_up_is_closed_others_left_alone.ensures.closed;
+      alone = c.given_up_is_closed_unnamed_stays_unheld.ensures.alone;
+      gives_up = c.given_up_is_closed_unnamed_stays_unheld.ensures.closed;
     } in
-    told_out_once c.frame_or_fault_excludes_others.ensures.frame c.frame_or_fault_excludes_others.ensures.either laws policy d _ t u _ whole
-    (wholly s.peers sound) (cuts_alike c.frame_or_fault_excludes_others.ensures.fault policy d piece more s m t first others h k) out all
+    told_out_once c.one_front_frame_or_lasting_fault.ensures.frame c.one_front_frame_or_lasting_fault.ensures.either laws policy d _ t u _ whole
+    (wholly s.peers sound) (cuts_alike c.one_front_frame_or_lasting_fault.ensures.fault policy d piece more s m t first others h k) out all
     also
 
 pub returns-clause-pieces : goal.returns-clause-pieces
@@ -35,8 +35,8 @@ returns-clause-pieces c = λ policy d pieces s t u turns whole sound h out k als
       step = c.done_events_are_steps_or_drops.ensures;
       fresh = c.each_event_keeps_peers_settled.ensures.fresh;
       settled = c.each_event_keeps_peers_settled.ensures.kept;
-      alone = c.given_up_is_closed_others_left_alone.ensures.alone;
-      gives_up = c.given_up_is_closed_others_left_alone.ensures.closed;
+      alone = c.given_up_is_closed_unnamed_stays_unheld.ensures.alone;
+      gives_up = c.given_up_is_closed_unnamed_stays_unheld.ensures.closed;
     } in
-    pieces_told_out c.frame_or_fault_excludes_others.ensures.frame c.frame_or_fault_excludes_others.ensures.either c.frame_or_fault_excludes_others.ensures.fault laws policy d pieces
+    pieces_told_out c.one_front_frame_or_lasting_fault.ensures.frame c.one_front_frame_or_lasting_fault.ensures.either c.one_front_frame_or_lasting_fault.ensures.fault laws policy d pieces
     s t u turns whole (wholly s.peers sound) h out k also

@@ -10,11 +10,11 @@ returns-clause-event c = λ e s t answer j sound after tells un.
       step = c.done_events_are_steps_or_drops.ensures;
       fresh = c.each_event_keeps_peers_settled.ensures.fresh;
       settled = c.each_event_keeps_peers_settled.ensures.kept;
-      alone = c.given_up_is_closed_others_left_alone.ensures.alone;
-      gives_up = c.given_up_is_closed_others_left_alone.ensures.closed;
+      alone = c.given_up_is_closed_unnamed_stays_unheld.ensures.alone;
+      gives_up = c.given_up_is_closed_unnamed_stays_unheld.ensures.closed;
     } in
     event_leaves_others c.events_take_named_release_closed_connections.ensures.closed
-    (closes_its_own c.done_events_are_steps_or_drops.ensures c.given_up_is_closed_others_left_alone.ensures.closed) laws
+    (closes_its_own c.done_events_are_steps_or_drops.ensures c.given_up_is_closed_unnamed_stays_unheld.ensures.closed) laws
     c.connections_stay_until_closed.ensures.closed e s t answer j sound after.neighbourhood.apart tells un
 
 pub returns-clause-octets : goal.returns-clause-octets
@@ -23,10 +23,10 @@ returns-clause-octets c = λ policy d s t turn j sound after tells un.
       step = c.done_events_are_steps_or_drops.ensures;
       fresh = c.each_event_keeps_peers_settled.ensures.fresh;
       settled = c.each_event_keeps_peers_settled.ensures.kept;
-      alone = c.given_up_is_closed_others_left_alone.ensures.alone;
-      gives_up = c.given_up_is_closed_others_left_alone.ensures.closed;
+      alone = c.given_up_is_closed_unnamed_stays_unheld.ensures.alone;
+      gives_up = c.given_up_is_closed_unnamed_stays_unheld.ensures.closed;
     } in
     next_leaves_others c.events_take_named_release_closed_connections.ensures.closed
-    (closes_its_own c.done_events_are_steps_or_drops.ensures c.given_up_is_closed_others_left_alone.ensures.closed) laws
+    (closes_its_own c.done_events_are_steps_or_drops.ensures c.given_up_is_closed_unnamed_stays_unheld.ensures.closed) laws
     c.connections_stay_until_closed.ensures.closed policy turn.arrived d s t turn.answer j sound after.neighbourhood.apart tells
     un

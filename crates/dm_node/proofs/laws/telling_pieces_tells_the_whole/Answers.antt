@@ -3,4 +3,4 @@ use Rattle.dm_node.proofs.NodeCuts.{cuts_alike}
 use Rattle.dm_node.proofs.laws.telling_pieces_tells_the_whole.Goals as goal
 
 pub returns : goal.returns
-returns c = cuts_alike c.frame_or_fault_excludes_others.ensures.fault
+returns c = cuts_alike c.one_front_frame_or_lasting_fault.ensures.fault

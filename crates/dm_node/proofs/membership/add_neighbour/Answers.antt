@@ -2,6 +2,6 @@
 use Rattle.dm_node.proofs.NodeEmptying.{held_added}
 use Rattle.dm_node.proofs.membership.add_neighbour.Goals as goal
 
-pub returns-in-Ok-add-clause-held : goal.returns-in-Ok-add-clause-held
-returns-in-Ok-add-clause-held c =
-    held_added c.args.neighbours.now c.add.new.self c.args.config c.in-Ok-add.ensures.added
+pub returns-in-Ok-push_new_peer-clause-held : goal.returns-in-Ok-push_new_peer-clause-held
+returns-in-Ok-push_new_peer-clause-held c =
+    held_added c.args.neighbours.now c.push_new_peer.new.self c.args.config c.in-Ok-push_new_peer.ensures.added

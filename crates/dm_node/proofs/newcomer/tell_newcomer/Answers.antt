@@ -17,7 +17,7 @@ same_conn c d e = cc
 
 pub returns-in-Ok-clause-takes : goal.returns-in-Ok-clause-takes
 returns-in-Ok-clause-takes c =
-    λ d un. (leaves c.done_events_are_steps_or_drops.ensures c.given_up_is_closed_others_left_alone.ensures.alone
+    λ d un. (leaves c.done_events_are_steps_or_drops.ensures c.given_up_is_closed_unnamed_stays_unheld.ensures.alone
     c.new-peer.result c.on.new.self (Arrived c.args.conn c.args.octets.now) c.state-state.ensures.shaped
     (inl (c.in-Ok.actions.items, c.in-Ok.ensures.acts))).takes d (λ e. un (same_conn c.args.conn d e))
     (fresh_holds c.new-peer.result _ d c.new-peer.ensures.standing)

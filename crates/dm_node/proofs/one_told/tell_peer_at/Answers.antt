@@ -29,7 +29,7 @@ returns-clause-roster c = λ hosts count roster.
     let i = c.args.index in
     let was = found ps i _ _ c.index_mut.ensures.value c.in-Some.is c.requires.there in
     let is = set_here ps i _ c.requires.there in
-    let left = leaves c.done_events_are_steps_or_drops.ensures c.given_up_is_closed_others_left_alone.ensures.alone _ _ _
+    let left = leaves c.done_events_are_steps_or_drops.ensures c.given_up_is_closed_unnamed_stays_unheld.ensures.alone _ _ _
     c.state-state.ensures.shaped
     (done_or_same c.on_into-done.new.actions.items _ _ _ c.on_into-done.result c.on_into-done.ensures.acts
     c.on_into-done.ensures.unchanged) in
@@ -37,7 +37,7 @@ returns-clause-roster c = λ hosts count roster.
     record {
       apart = apart_after _ _ _ _ _ was is left c.requires.only roster.apart;
       unlike = unlike_same _ _ hosted roster.unlike;
-      kept = kept_told ps _ i _ is c.every_peer_is_settled_with_fitting_numbers.ensures (λ j un. set_else ps i j _ un) roster.kept;
+      kept = kept_told ps _ i _ is c.peers_are_settled_with_encodable_numbers.ensures (λ j un. set_else ps i j _ un) roster.kept;
       named = named_same hosts _ _ hosted roster.named;
       counted = roster.counted ∙ sym (present_told ps i _ c.requires.there);
     }

@@ -48,4 +48,4 @@ returns-clause-owned c = λ ps is owned.
     owned_left qs c.args.answer.now.actions.items (owners_of c.update_owners.new.slots)
     (owners_of c.set_max_message_len_if_open.new.self) c.requires.free
     (c.set_max_message_len_if_open.ensures.owners ∙ rw (c.as_slice.ensures.value) at c.shut_connections_closed_by.ensures.owners)
-    (c.update_owners.ensures.owned ps qs c.neighbours_are_apart_and_settled.ensures.apart.apart c.snapshot-after.ensures.held is owned)
+    (c.update_owners.ensures.owned ps qs c.neighbours_are_apart_and_sound.ensures.apart.apart c.snapshot-after.ensures.held is owned)

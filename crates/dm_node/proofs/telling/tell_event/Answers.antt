@@ -13,7 +13,7 @@ returns-in-Ok-tell_neighbour_or_handle_stranger-clause-met g c =
     let policy = g.S.Strangers.policy c.args.strangers.now in
     let ps = c.args.neighbours.now in
     let looked = state_looked policy ps c.args.event c.in-Ok.who _
-    c.neighbours_are_apart_and_settled.ensures.apart c.in-Ok.ensures.concerned c.in-Ok.ensures.nobody
+    c.neighbours_are_apart_and_sound.ensures.apart c.in-Ok.ensures.concerned c.in-Ok.ensures.nobody
     c.snapshot-before.ensures.state in
     meets_after policy c.args.event c.args.own.now ps c.tell_neighbour_or_handle_stranger.new.neighbours
     c.tell_neighbour_or_handle_stranger.new.answer.neighbour c.tell_neighbour_or_handle_stranger.new.answer.actions.items (known_of c.args.known.now)
@@ -25,7 +25,7 @@ returns-in-Ok-tell_neighbour_or_handle_stranger-clause-places g c =
     let policy = g.S.Strangers.policy c.args.strangers.now in
     let ps = c.args.neighbours.now in
     let looked = state_looked policy ps c.args.event c.in-Ok.who _
-    c.neighbours_are_apart_and_settled.ensures.apart c.in-Ok.ensures.concerned c.in-Ok.ensures.nobody
+    c.neighbours_are_apart_and_sound.ensures.apart c.in-Ok.ensures.concerned c.in-Ok.ensures.nobody
     c.snapshot-before.ensures.state in
     known_told known_after policy c.args.event c.args.own.now ps c.tell_neighbour_or_handle_stranger.new.neighbours
     c.tell_neighbour_or_handle_stranger.new.answer.neighbour c.tell_neighbour_or_handle_stranger.new.answer.actions.items (known_of c.args.known.now)
@@ -38,7 +38,7 @@ returns-in-Ok-tell_neighbour_or_handle_stranger-clause-places g c =
 pub returns-in-Err-tell_neighbour_or_handle_stranger-clause-wants : goal.returns-in-Err-tell_neighbour_or_handle_stranger-clause-wants
 returns-in-Err-tell_neighbour_or_handle_stranger-clause-wants g c = λ is.
     event_wants c.event_refusals_go_by_rule.ensures (g.S.Strangers.policy c.args.strangers.now) c.args.neighbours.now
-    c.args.event c.in-Err-tell_neighbour_or_handle_stranger.fault c.neighbours_are_apart_and_settled.ensures.kept c.requires.calm
+    c.args.event c.in-Err-tell_neighbour_or_handle_stranger.fault c.neighbours_are_apart_and_sound.ensures.kept c.requires.calm
     (same_fault c.in-Err-tell_neighbour_or_handle_stranger.fault _ _ refl is) c.in-Err-tell_neighbour_or_handle_stranger.ensures.because
 
 pub returns-in-Ok-tell_neighbour_or_handle_stranger-clause-before : goal.returns-in-Ok-tell_neighbour_or_handle_stranger-clause-before
@@ -46,7 +46,7 @@ returns-in-Ok-tell_neighbour_or_handle_stranger-clause-before g c =
     let policy = g.S.Strangers.policy c.args.strangers.now in
     let ps = c.args.neighbours.now in
     let looked = held_looked policy ps c.args.event c.in-Ok.who _
-    c.neighbours_are_apart_and_settled.ensures.apart c.in-Ok.ensures.concerned c.in-Ok.ensures.nobody
+    c.neighbours_are_apart_and_sound.ensures.apart c.in-Ok.ensures.concerned c.in-Ok.ensures.nobody
     c.snapshot-before.ensures.held in
     reowned_told policy c.args.event c.args.own.now ps c.tell_neighbour_or_handle_stranger.new.neighbours
     c.tell_neighbour_or_handle_stranger.new.answer.neighbour c.tell_neighbour_or_handle_stranger.new.answer.actions.items c.snapshot-before.result.held

@@ -13,69 +13,69 @@ returns-in-Ok-tell_neighbour_or_handle_stranger-clause-met g c =
     let policy = g.S.Strangers.policy c.args.strangers.now in
     let ps = c.args.neighbours.now in
     let looked = state_looked policy ps (event.Arrived c.args.conn c.args.octets) c.in-Ok.who _
-    c.neighbours_are_apart_and_settled.ensures.apart c.in-Ok.ensures.concerned c.in-Ok.ensures.nobody
+    c.neighbours_are_apart_and_sound.ensures.apart c.in-Ok.ensures.concerned c.in-Ok.ensures.nobody
     c.snapshot-before.ensures.state in
     meets policy c.args.conn c.args.octets.now c.args.own.now ps c.tell_neighbour_or_handle_stranger.new.neighbours
     c.tell_neighbour_or_handle_stranger.new.answer.neighbour c.tell_neighbour_or_handle_stranger.new.answer.actions.items (known_of c.args.known.now)
-    (known_of c.copy_exchange_and_reserve_place.new.known) (known_of c.meet_if_opened_by_message.new.known) c.snapshot-before.result.state c.in-Ok-copy_exchange_and_reserve_place.exchange looked
-    c.in-Ok-copy_exchange_and_reserve_place.ensures.copied c.copy_exchange_and_reserve_place.ensures.same c.in-Ok-tell_neighbour_or_handle_stranger.ensures.told c.meet_if_opened_by_message.ensures.met
-    c.meet_if_opened_by_message.ensures.unmet
+    (known_of c.copy_and_reserve_if_exchange.new.known) (known_of c.meet_or_set_waiting_cer.new.known) c.snapshot-before.result.state c.in-Ok-copy_and_reserve_if_exchange.exchange looked
+    c.in-Ok-copy_and_reserve_if_exchange.ensures.copied c.copy_and_reserve_if_exchange.ensures.same c.in-Ok-tell_neighbour_or_handle_stranger.ensures.told c.meet_or_set_waiting_cer.ensures.met
+    c.meet_or_set_waiting_cer.ensures.unmet
 
 pub returns-in-Ok-tell_neighbour_or_handle_stranger-clause-places : goal.returns-in-Ok-tell_neighbour_or_handle_stranger-clause-places
 returns-in-Ok-tell_neighbour_or_handle_stranger-clause-places g c =
     let policy = g.S.Strangers.policy c.args.strangers.now in
     let ps = c.args.neighbours.now in
     let looked = state_looked policy ps (event.Arrived c.args.conn c.args.octets) c.in-Ok.who _
-    c.neighbours_are_apart_and_settled.ensures.apart c.in-Ok.ensures.concerned c.in-Ok.ensures.nobody
+    c.neighbours_are_apart_and_sound.ensures.apart c.in-Ok.ensures.concerned c.in-Ok.ensures.nobody
     c.snapshot-before.ensures.state in
     known_moved (λ state q a. known_at c.args.conn state q c.args.octets.now a) policy c.args.conn c.args.octets.now
     c.args.own.now ps c.tell_neighbour_or_handle_stranger.new.neighbours c.tell_neighbour_or_handle_stranger.new.answer.neighbour
-    c.tell_neighbour_or_handle_stranger.new.answer.actions.items (known_of c.args.known.now) (known_of c.meet_if_opened_by_message.new.known) c.requires.places
+    c.tell_neighbour_or_handle_stranger.new.answer.actions.items (known_of c.args.known.now) (known_of c.meet_or_set_waiting_cer.new.known) c.requires.places
     c.in-Ok-tell_neighbour_or_handle_stranger.ensures.told
     (meets policy c.args.conn c.args.octets.now c.args.own.now ps c.tell_neighbour_or_handle_stranger.new.neighbours
     c.tell_neighbour_or_handle_stranger.new.answer.neighbour c.tell_neighbour_or_handle_stranger.new.answer.actions.items (known_of c.args.known.now)
-    (known_of c.copy_exchange_and_reserve_place.new.known) (known_of c.meet_if_opened_by_message.new.known) c.snapshot-before.result.state c.in-Ok-copy_exchange_and_reserve_place.exchange looked
-    c.in-Ok-copy_exchange_and_reserve_place.ensures.copied c.copy_exchange_and_reserve_place.ensures.same c.in-Ok-tell_neighbour_or_handle_stranger.ensures.told c.meet_if_opened_by_message.ensures.met
-    c.meet_if_opened_by_message.ensures.unmet)
+    (known_of c.copy_and_reserve_if_exchange.new.known) (known_of c.meet_or_set_waiting_cer.new.known) c.snapshot-before.result.state c.in-Ok-copy_and_reserve_if_exchange.exchange looked
+    c.in-Ok-copy_and_reserve_if_exchange.ensures.copied c.copy_and_reserve_if_exchange.ensures.same c.in-Ok-tell_neighbour_or_handle_stranger.ensures.told c.meet_or_set_waiting_cer.ensures.met
+    c.meet_or_set_waiting_cer.ensures.unmet)
 
-pub meet_if_opened_by_message-requires-clause-room : goal.meet_if_opened_by_message-requires-clause-room
-meet_if_opened_by_message-requires-clause-room g c = λ i is none.
+pub meet_or_set_waiting_cer-requires-clause-room : goal.meet_or_set_waiting_cer-requires-clause-room
+meet_or_set_waiting_cer-requires-clause-room g c = λ i is none.
     let policy = g.S.Strangers.policy c.args.strangers.now in
     let ps = c.args.neighbours.now in
     let looked = state_looked policy ps (event.Arrived c.args.conn c.args.octets) c.in-Ok.who _
-    c.neighbours_are_apart_and_settled.ensures.apart c.in-Ok.ensures.concerned c.in-Ok.ensures.nobody
+    c.neighbours_are_apart_and_sound.ensures.apart c.in-Ok.ensures.concerned c.in-Ok.ensures.nobody
     c.snapshot-before.ensures.state in
-    c.in-Ok-copy_exchange_and_reserve_place.ensures.room
+    c.in-Ok-copy_and_reserve_if_exchange.ensures.room
     (room_for policy c.args.conn c.args.octets.now c.args.own.now ps c.tell_neighbour_or_handle_stranger.new.neighbours
     c.tell_neighbour_or_handle_stranger.new.answer.neighbour c.tell_neighbour_or_handle_stranger.new.answer.actions.items (known_of c.args.known.now)
     c.snapshot-before.result.state i c.requires.places looked c.in-Ok-tell_neighbour_or_handle_stranger.ensures.told is
-    (ap (λ l. nat_lt i (length l)) (sym c.copy_exchange_and_reserve_place.ensures.same) ∙ none))
+    (ap (λ l. nat_lt i (length l)) (sym c.copy_and_reserve_if_exchange.ensures.same) ∙ none))
 
-pub meet_if_opened_by_message-requires-clause-there : goal.meet_if_opened_by_message-requires-clause-there
-meet_if_opened_by_message-requires-clause-there g c = λ i is stood.
+pub meet_or_set_waiting_cer-requires-clause-there : goal.meet_or_set_waiting_cer-requires-clause-there
+meet_or_set_waiting_cer-requires-clause-there g c = λ i is stood.
     let policy = g.S.Strangers.policy c.args.strangers.now in
     let ps = c.args.neighbours.now in
     let looked = state_looked policy ps (event.Arrived c.args.conn c.args.octets) c.in-Ok.who _
-    c.neighbours_are_apart_and_settled.ensures.apart c.in-Ok.ensures.concerned c.in-Ok.ensures.nobody
+    c.neighbours_are_apart_and_sound.ensures.apart c.in-Ok.ensures.concerned c.in-Ok.ensures.nobody
     c.snapshot-before.ensures.state in
-    ap (λ l. nat_lt i (length l)) c.copy_exchange_and_reserve_place.ensures.same
+    ap (λ l. nat_lt i (length l)) c.copy_and_reserve_if_exchange.ensures.same
     ∙ open_has_place policy c.args.conn c.args.octets.now c.args.own.now ps c.tell_neighbour_or_handle_stranger.new.neighbours
     c.tell_neighbour_or_handle_stranger.new.answer.neighbour c.tell_neighbour_or_handle_stranger.new.answer.actions.items (known_of c.args.known.now)
     c.snapshot-before.result.state i c.requires.places looked c.in-Ok-tell_neighbour_or_handle_stranger.ensures.told is stood
 
-pub meet_if_opened_by_message-requires-clause-copied : goal.meet_if_opened_by_message-requires-clause-copied
-meet_if_opened_by_message-requires-clause-copied g c = λ stood.
-    open_copies_none c.args.octets.now c.in-Ok-copy_exchange_and_reserve_place.exchange c.snapshot-before.result.state
-    c.in-Ok-copy_exchange_and_reserve_place.ensures.copied stood
+pub meet_or_set_waiting_cer-requires-clause-copied : goal.meet_or_set_waiting_cer-requires-clause-copied
+meet_or_set_waiting_cer-requires-clause-copied g c = λ stood.
+    open_copies_none c.args.octets.now c.in-Ok-copy_and_reserve_if_exchange.exchange c.snapshot-before.result.state
+    c.in-Ok-copy_and_reserve_if_exchange.ensures.copied stood
 
-pub returns-in-Err-copy_exchange_and_reserve_place-clause-memory : goal.returns-in-Err-copy_exchange_and_reserve_place-clause-memory
-returns-in-Err-copy_exchange_and_reserve_place-clause-memory g c =
+pub returns-in-Err-copy_and_reserve_if_exchange-clause-memory : goal.returns-in-Err-copy_and_reserve_if_exchange-clause-memory
+returns-in-Err-copy_and_reserve_if_exchange-clause-memory g c =
     let policy = g.S.Strangers.policy c.args.strangers.now in
     let ps = c.args.neighbours.now in
     let looked = state_looked policy ps (event.Arrived c.args.conn c.args.octets) c.in-Ok.who _
-    c.neighbours_are_apart_and_settled.ensures.apart c.in-Ok.ensures.concerned c.in-Ok.ensures.nobody
+    c.neighbours_are_apart_and_sound.ensures.apart c.in-Ok.ensures.concerned c.in-Ok.ensures.nobody
     c.snapshot-before.ensures.state in
-    inr (is_copied policy c.args.conn c.args.octets.now ps c.snapshot-before.result.state looked c.in-Err-copy_exchange_and_reserve_place.ensures.memory)
+    inr (is_copied policy c.args.conn c.args.octets.now ps c.snapshot-before.result.state looked c.in-Err-copy_and_reserve_if_exchange.ensures.memory)
 
 pub returns-in-Err-tell_neighbour_or_handle_stranger-clause-memory : goal.returns-in-Err-tell_neighbour_or_handle_stranger-clause-memory
 returns-in-Err-tell_neighbour_or_handle_stranger-clause-memory g c =
@@ -86,7 +86,7 @@ returns-in-Ok-tell_neighbour_or_handle_stranger-clause-before g c =
     let policy = g.S.Strangers.policy c.args.strangers.now in
     let ps = c.args.neighbours.now in
     let looked = held_looked policy ps (event.Arrived c.args.conn c.args.octets) c.in-Ok.who _
-    c.neighbours_are_apart_and_settled.ensures.apart c.in-Ok.ensures.concerned c.in-Ok.ensures.nobody
+    c.neighbours_are_apart_and_sound.ensures.apart c.in-Ok.ensures.concerned c.in-Ok.ensures.nobody
     c.snapshot-before.ensures.held in
     reowned_moved policy c.args.conn c.args.octets.now c.args.own.now ps
     c.tell_neighbour_or_handle_stranger.new.neighbours c.tell_neighbour_or_handle_stranger.new.answer.neighbour

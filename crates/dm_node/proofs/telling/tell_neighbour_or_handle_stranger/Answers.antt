@@ -11,14 +11,14 @@ returns-in-Ok-clause-closed g c =
       step = c.done_events_are_steps_or_drops.ensures;
       fresh = c.each_event_keeps_peers_settled.ensures.fresh;
       settled = c.each_event_keeps_peers_settled.ensures.kept;
-      alone = c.given_up_is_closed_others_left_alone.ensures.alone;
-      gives_up = c.given_up_is_closed_others_left_alone.ensures.closed;
+      alone = c.given_up_is_closed_unnamed_stays_unheld.ensures.alone;
+      gives_up = c.given_up_is_closed_unnamed_stays_unheld.ensures.closed;
     } in
     closed_moved c.events_take_named_release_closed_connections.ensures.closed
-    (closes_its_own c.done_events_are_steps_or_drops.ensures c.given_up_is_closed_others_left_alone.ensures.closed) laws policy
+    (closes_its_own c.done_events_are_steps_or_drops.ensures c.given_up_is_closed_unnamed_stays_unheld.ensures.closed) laws policy
     c.args.event c.args.own.now c.args.neighbours.now c.tell_one_or_handle_stranger.new.neighbours
-    c.tell_one_or_handle_stranger.new.answer.neighbour c.tell_one_or_handle_stranger.new.answer.actions.items c.neighbours_are_apart_and_settled.ensures.kept
-    c.neighbours_are_apart_and_settled.ensures.apart.apart c.in-Ok.ensures.told
+    c.tell_one_or_handle_stranger.new.answer.neighbour c.tell_one_or_handle_stranger.new.answer.actions.items c.neighbours_are_apart_and_sound.ensures.kept
+    c.neighbours_are_apart_and_sound.ensures.apart.apart c.in-Ok.ensures.told
 
 pub returns-in-Ok-clause-held : goal.returns-in-Ok-clause-held
 returns-in-Ok-clause-held g c =
@@ -27,12 +27,12 @@ returns-in-Ok-clause-held g c =
       step = c.done_events_are_steps_or_drops.ensures;
       fresh = c.each_event_keeps_peers_settled.ensures.fresh;
       settled = c.each_event_keeps_peers_settled.ensures.kept;
-      alone = c.given_up_is_closed_others_left_alone.ensures.alone;
-      gives_up = c.given_up_is_closed_others_left_alone.ensures.closed;
+      alone = c.given_up_is_closed_unnamed_stays_unheld.ensures.alone;
+      gives_up = c.given_up_is_closed_unnamed_stays_unheld.ensures.closed;
     } in
     held_moved c.events_take_named_release_closed_connections.ensures.others laws policy c.args.event c.args.own.now
     c.args.neighbours.now c.tell_one_or_handle_stranger.new.neighbours c.tell_one_or_handle_stranger.new.answer.neighbour
-    c.tell_one_or_handle_stranger.new.answer.actions.items c.neighbours_are_apart_and_settled.ensures.kept c.in-Ok.ensures.told
+    c.tell_one_or_handle_stranger.new.answer.actions.items c.neighbours_are_apart_and_sound.ensures.kept c.in-Ok.ensures.told
 
 pub returns-in-Err-clause-refused : goal.returns-in-Err-clause-refused
 returns-in-Err-clause-refused g c =
@@ -42,4 +42,4 @@ returns-in-Err-clause-refused g c =
 pub returns-in-Err-clause-memory : goal.returns-in-Err-clause-memory
 returns-in-Err-clause-memory g c = λ d octets is.
     memory c.event_refusals_go_by_rule.ensures (g.S.Strangers.policy c.args.strangers.now) c.args.neighbours.now d
-    octets c.args.event c.in-Err.fault c.neighbours_are_apart_and_settled.ensures.kept is c.in-Err.ensures.refused
+    octets c.args.event c.in-Err.fault c.neighbours_are_apart_and_sound.ensures.kept is c.in-Err.ensures.refused

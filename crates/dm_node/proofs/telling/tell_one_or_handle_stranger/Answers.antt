@@ -17,7 +17,7 @@ returns-in-Some-clause-rules g c =
     let ps = c.args.neighbours.now in
     let concerned = at_some (Concerns policy ps c.args.event) c.args.who c.in-Some.index c.in-Some.is
     c.requires.whose.concerned in
-    one_goes policy ps c.args.event c.args.who c.in-Some.index c.tell_one_neighbour.result c.neighbours_are_apart_and_settled.ensures.apart
+    one_goes policy ps c.args.event c.args.who c.in-Some.index c.tell_one_neighbour.result c.neighbours_are_apart_and_sound.ensures.apart
     c.in-Some.is c.requires.whose.concerned c.tell_one_neighbour.ensures.refuses
     (c.tell_one_neighbour.ensures.ruled policy concerned)
 

@@ -6,8 +6,8 @@ pub returns : goal.returns
 unfolding node_text
 returns c =
     rw (
-      c.in_ok-push_held_connection-2.ensures,
-      c.in_ok-push_held_connection.ensures,
+      c.in_ok-push_connection_if_held-2.ensures,
+      c.in_ok-push_connection_if_held.ensures,
       c.in_ok-extend_from_slice.ensures.items,
       c.state_name.ensures,
       c.state.ensures.value,

@@ -10,11 +10,11 @@ returns-then-is_misshapen-clause-value c =
     (λ e. value_of_misshapen c.args.value.now (c.is_misshapen.ensures.0 c.if-is_misshapen.true), λ h. refl)
 
 pub returns-clause-one : goal.returns-clause-one
-returns-clause-one c = only_one c.octets_have_one_value_at_most.ensures c.write_well_formed_value.result (λ o. o.items) _ c.args.value.now
-    c.write_well_formed_value.ensures.found
+returns-clause-one c = only_one c.octets_have_one_value_at_most.ensures c.encode_well_formed_value.result (λ o. o.items) _ c.args.value.now
+    c.encode_well_formed_value.ensures.found
 
 pub returns-clause-value : goal.returns-clause-value
 returns-clause-value c =
-    let e = c.write_well_formed_value.ensures in
-    value_of_shaped c.write_well_formed_value.result c.args.value.now e.fault e.range
+    let e = c.encode_well_formed_value.ensures in
+    value_of_shaped c.encode_well_formed_value.result c.args.value.now e.fault e.range
     (λ m. false≢true (sym c.if-is_misshapen.false ∙ c.is_misshapen.ensures.1 m)) e.spelled

@@ -15,16 +15,16 @@ returns c =
     let code : string_bytes c.put_indented_result_code_and_name.new.text
     ≡ text ++ (codes "  " ++ result_text f.fault.code)
     = c.in_ok-put_indented_result_code_and_name.ensures in
-    let groups : string_bytes c.put_path.new.text
+    let groups : string_bytes c.put_spaced_steps_and_slashes.new.text
     ≡ string_bytes c.put_indented_result_code_and_name.new.text ++ flat_map (step_text avps) f.path
-    = c.in_ok-put_path.ensures
+    = c.in_ok-put_spaced_steps_and_slashes.ensures
     ∙ ap (λ p. string_bytes c.put_indented_result_code_and_name.new.text ++ flat_map (step_text avps) p)
     c.as_slice.ensures in
-    let failed : string_bytes c.put_any_failed_avp_and_reason.new.text ≡ string_bytes c.put_path.new.text
+    let failed : string_bytes c.put_spaced_failed_avp_if_any.new.text ≡ string_bytes c.put_spaced_steps_and_slashes.new.text
     ++ failed_view avps f.fault.code (failed_length f.fault.failed) (option_map without_data f.fault.failed)
-    = c.in_ok-put_any_failed_avp_and_reason.ensures
-    ∙ (λ i. string_bytes c.put_path.new.text
+    = c.in_ok-put_spaced_failed_avp_if_any.ensures
+    ∙ (λ i. string_bytes c.put_spaced_steps_and_slashes.new.text
     ++ failed_view avps f.fault.code (c.failed_avp_data_length-length.ensures i) (c.failed_avp_without_data.ensures i)) in
     let ended : string_bytes c.push_str.new.self
-    ≡ string_bytes c.put_any_failed_avp_and_reason.new.text ++ 10 ∷ [] = search rules in
+    ≡ string_bytes c.put_spaced_failed_avp_if_any.new.text ++ 10 ∷ [] = search rules in
     rw (ended, failed, groups, code) (simp append_assoc)

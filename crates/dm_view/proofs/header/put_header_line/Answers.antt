@@ -8,8 +8,8 @@ unfolding header_view
 returns c =
     let h = c.args.header.now in
     let text = string_bytes c.args.text.now in
-    let named : string_bytes c.put_command_name.new.text ≡ text ++ command_name (command_of c.args.dictionary.now h)
-    = c.in_ok-put_command_name.ensures ∙ ap (λ o. text ++ command_name o) c.command.ensures.found in
+    let named : string_bytes c.put_command_name_or_placeholder.new.text ≡ text ++ command_name (command_of c.args.dictionary.now h)
+    = c.in_ok-put_command_name_or_placeholder.ensures ∙ ap (λ o. text ++ command_name o) c.command.ensures.found in
     rw (
       c.in_ok-push_str.ensures.bytes,
       c.in_ok-put_words_decimal_and_hexadecimal-2.ensures,

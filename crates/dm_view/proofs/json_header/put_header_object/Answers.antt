@@ -19,9 +19,9 @@ returns c =
     let code : c.put_number_member.new.self ≡ c.put_command_name_or_null.new.json
     ++ key (codes "code") ∷ number (decimal h.command) ∷ [] = c.in_ok-put_number_member.ensures in
     let flagged : c.put_key-2.new.self ≡ c.put_number_member.new.self ++ key (codes "flags") ∷ [] = c.in_ok-put_key-2.ensures in
-    let flags : c.put_command_flags_array.new.json ≡ c.put_key-2.new.self ++ json_tokens (header_words h) =
-    c.in_ok-put_command_flags_array.ensures in
-    let ended : c.end_header_with_application_and_identifiers.new.json ≡ c.put_command_flags_array.new.json
+    let flags : c.put_flag_words_array.new.json ≡ c.put_key-2.new.self ++ json_tokens (header_words h) =
+    c.in_ok-put_flag_words_array.ensures in
+    let ended : c.end_header_with_application_and_identifiers.new.json ≡ c.put_flag_words_array.new.json
     ++ members_tokens (identifiers h)
     = c.in_ok-end_header_with_application_and_identifiers.ensures in
     rw (ended, flags, flagged, code, name, named, begun) (simp append_assoc)

@@ -92,7 +92,7 @@ returns-in-Err-clause-said c =
       inv.text,
       continues-end c.args.task c.args.dictionary.now c.args.framer.now.octets held held inv.so (Some fault)
           c.args.reading.tally tally inv.told inv.behind
-          (frames-fault c.frame_or_fault_excludes_others.ensures.either c.args.task c.args.dictionary.now (behind tally) held fault
+          (frames-fault c.one_front_frame_or_lasting_fault.ensures.either c.args.task c.args.dictionary.now (behind tally) held fault
           (subst Has most c.in-Err.ensures.fault)),
       inv.counted,
     )

@@ -10,7 +10,7 @@ use Rattle.dm_view_lines.proofs.line_reports.put_report_of_all_lines.Goals as go
 pub overflow_add-number : goal.overflow_add-number
 overflow_add-number c =
     let inv = c.loop-line.invariant in
-    let most = line_counts c.octet_count_bounds_line_count.ensures c.args.input.now c.in-Some.line.now
+    let most = line_counts c.lines_exceed_octets_by_one_at_most.ensures c.args.input.now c.in-Some.line.now
     c.loop-line.line-iterator c.next.new.self inv.0 inv.1 c.in-Some.ensures.steps in
     omega (arith, most, inv.2)
 

@@ -19,7 +19,7 @@ pub returns-in_err-take_chunk-clause-left : goal.returns-in_err-take_chunk-claus
 returns-in_err-take_chunk-clause-left c =
     let so_far = c.chunks.invariant in
     let has : HasData c.chunks.chunk-iterator (data_seen c.in-Some.chunk) c.next.new.self = c.in-Some.ensures.steps in
-    let later = c.data_chunks_make_one_list.ensures.some c.next.new.self in
+    let later = c.packets_have_one_data_list.ensures.some c.next.new.self in
     on_err c.from_residual.result _ (record {
       taken = so_far.taken;
       chunk = data_seen c.in-Some.chunk;

@@ -8,5 +8,5 @@ use Rattle.dm_dict.proofs.linked.Linked.avp_by_code.Goals as goal
 pub returns : goal.returns
 returns c =
     let avps = c.args.self.now.tables.avps.items in
-    c.optional_avp_def_at.ensures ∙ ap (option_and_then (slice_get avps)) c.avp_place_by_code.ensures ∙ found
+    c.avp_def_at_optional_place.ensures ∙ ap (option_and_then (slice_get avps)) c.avp_place_by_code.ensures ∙ found
     (is_coded c.args.code c.args.vendor) avps

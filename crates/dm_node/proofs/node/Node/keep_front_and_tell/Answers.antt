@@ -14,7 +14,7 @@ pub returns-in-Ok-next-clause-none : goal.returns-in-Ok-next-clause-none
 returns-in-Ok-next-clause-none g c =
     none_so (turn_in c.args.conn c.next.new.answer) _ _
     (λ h. nothing_heard c.args.conn c.args.piece.now c.in-Ok.size (node_state_of c.args.self.now)
-    (node_state_of c.keep_front.new.self) (node_state_of c.next.new.self) c.in-Ok.ensures.taken c.in-Ok.ensures.fed
+    (node_state_of c.keep_front_or_discard.new.self) (node_state_of c.next.new.self) c.in-Ok.ensures.taken c.in-Ok.ensures.fed
     h.0 h.1) c.in-Ok-next.ensures.none
 
 pub returns-in-Err-next-clause-unchanged : goal.returns-in-Err-next-clause-unchanged
@@ -27,5 +27,5 @@ returns-in-Err-next-clause-unchanged g c =
 pub returns-in-Err-next-clause-memory : goal.returns-in-Err-next-clause-memory
 returns-in-Err-next-clause-memory g c =
     kept_next (g.S.Strangers.policy c.args.strangers.now) c.args.conn c.args.piece.now
-    (take c.in-Ok.size c.args.piece.now) (node_state_of c.args.self.now) (node_state_of c.keep_front.new.self)
+    (take c.in-Ok.size c.args.piece.now) (node_state_of c.args.self.now) (node_state_of c.keep_front_or_discard.new.self)
     c.in-Ok.ensures.fed c.requires.not_whole c.in-Err-next.ensures.memory

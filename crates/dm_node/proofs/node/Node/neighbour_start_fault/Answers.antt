@@ -12,7 +12,7 @@ returns-in-Some-clause-declined c =
     let at = sym c.peer.ensures ∙ ap option_copied c.in-Some.is in
     each_fault _ c.peer_start_fault.result (start_refusal peer.standing.core.state) c.peer_start_fault.ensures
     (start_declined ps c.args.index c.args.conn peer at c.event_refusals_go_by_rule.ensures
-    (c.neighbours_are_apart_and_settled.ensures.kept c.args.index peer at))
+    (c.neighbours_are_apart_and_sound.ensures.kept c.args.index peer at))
 
 pub returns-in-Some-clause-rule : goal.returns-in-Some-clause-rule
 returns-in-Some-clause-rule c =

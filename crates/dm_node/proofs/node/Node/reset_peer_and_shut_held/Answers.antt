@@ -14,11 +14,11 @@ invariant_of-self c =
     record {
       held = held_set ps c.reset_neighbour.new.self c.args.index _ (intakes_of c.args.self.now.intakes)
           (intakes_of c.shut_held.new.intakes) c.reset_neighbour.ensures
-          (c.shut_held.ensures.shut (peer_at ps c.args.index) c.held_connections-held.ensures.holds) c.neighbours_are_apart_and_settled.ensures.apart.apart
+          (c.shut_held.ensures.shut (peer_at ps c.args.index) c.held_connections-held.ensures.holds) c.neighbours_are_apart_and_sound.ensures.apart.apart
           (λ d. back_holds d (peer_at ps c.args.index)) c.args.self.now.held;
       owned = owned_set ps c.reset_neighbour.new.self c.args.index _ c.held_connections-held.result
           (owners_of c.args.self.now.intakes) (owners_of c.shut_held.new.intakes) c.reset_neighbour.ensures
-          (λ d. back_holds d (peer_at ps c.args.index)) c.neighbours_are_apart_and_settled.ensures.apart.apart c.held_connections-held.ensures.holds
+          (λ d. back_holds d (peer_at ps c.args.index)) c.neighbours_are_apart_and_sound.ensures.apart.apart c.held_connections-held.ensures.holds
           c.shut_held.ensures.owners c.args.self.now.owned;
       met = known_back ps _ (known_of c.args.self.now.known) c.args.index c.args.self.now.met
           c.reset_neighbour.ensures;

@@ -10,7 +10,7 @@ use Rattle.dm_node.proofs.node.Node.tell_gone_and_shut.Goals as goal
 pub shut-requires : goal.shut-requires
 shut-requires c =
     gone_free c.events_take_named_release_closed_connections.ensures.gone c.args.conn (node_state_of c.args.self.now)
-    (node_state_of c.tell_event_if_there.new.self) _ c.neighbours_are_apart_and_settled.ensures.kept c.neighbours_are_apart_and_settled.ensures.apart.apart
+    (node_state_of c.tell_event_if_there.new.self) _ c.neighbours_are_apart_and_sound.ensures.kept c.neighbours_are_apart_and_sound.ensures.apart.apart
     c.args.self.now.held c.in-Ok.ensures.told
 
 pub returns-in-Ok-clause-met : goal.returns-in-Ok-clause-met

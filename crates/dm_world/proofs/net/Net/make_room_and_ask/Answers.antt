@@ -12,7 +12,7 @@ returns-clause-sends c =
     let laws : SendLaws =
     record {
       machine = c.octet_peers_move_as_the_machine.ensures;
-      alone = c.given_up_is_closed_others_left_alone.ensures.alone;
+      alone = c.given_up_is_closed_unnamed_stays_unheld.ensures.alone;
       keeps = c.steps_keep_shape_in_few_commands.ensures;
     } in
     let room : HasRoomToSend (as_side c.args.side) c.make_room_for_sends.new.links.items

@@ -6,14 +6,14 @@ use Rattle.dm_world.proofs.Silent.{silent_room, timeout_wants_none}
 use Rattle.dm_world.proofs.Telling.{done_step}
 use Rattle.dm_world.proofs.net.Net.time_out_side.Goals as goal
 
-pub perform_actions-requires-clause-frames : goal.perform_actions-requires-clause-frames
-perform_actions-requires-clause-frames c =
+pub perform_sends_and_closes-requires-clause-frames : goal.perform_sends_and_closes-requires-clause-frames
+perform_sends_and_closes-requires-clause-frames c =
     let answer = rw c.in-Ok-Some.field-0-is at c.in-Ok-Some.ensures.answer in
     c.every_message_sent_is_a_frame.ensures (peer_of (as_side c.args.side) c.args.self.now.pair)
     (peer_of (as_side c.args.side) c.ask_side.new.self) Timeout c.in-Ok-Some.actions.items (λ i. omega arith) answer.0
 
-pub perform_actions-requires-clause-room : goal.perform_actions-requires-clause-room
-perform_actions-requires-clause-room c =
+pub perform_sends_and_closes-requires-clause-room : goal.perform_sends_and_closes-requires-clause-room
+perform_sends_and_closes-requires-clause-room c =
     let answer = rw c.in-Ok-Some.field-0-is at c.in-Ok-Some.ensures.answer in
     silent_room (as_side c.args.side) Timeout c.args.self.now c.ask_side.new.self c.in-Ok-Some.actions
     c.args.self.now.links.items c.starts_timeouts_drops_take_no_memory.ensures c.ask_side.ensures.shaped refl answer
@@ -27,5 +27,5 @@ pub returns-in-Ok-Some : goal.returns-in-Ok-Some
 returns-in-Ok-Some c =
     let answer = rw c.in-Ok-Some.field-0-is at c.in-Ok-Some.ensures.answer in
     done_step (as_side c.args.side) Timeout c.args.self.now
-    (record { pair = c.ask_side.new.self; links = c.perform_actions.new.links }) c.in-Ok-Some.actions answer
-    c.perform_actions.ensures
+    (record { pair = c.ask_side.new.self; links = c.perform_sends_and_closes.new.links }) c.in-Ok-Some.actions answer
+    c.perform_sends_and_closes.ensures

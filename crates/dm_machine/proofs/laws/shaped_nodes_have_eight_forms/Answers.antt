@@ -1,5 +1,0 @@
-use Rattle.dm_machine.proofs.FormLemmas.{form_of, shape_of}
-use Rattle.dm_machine.proofs.laws.shaped_nodes_have_eight_forms.Goals as goal
-
-pub returns : goal.returns
-returns c = record { formed = form_of; shaped = shape_of }

@@ -1,5 +1,0 @@
-use Rattle.dm_replay.proofs.SomeScripts.{some_script}
-use Rattle.dm_replay.proofs.laws.each_text_is_nothing_script_or_bad.Goals as goal
-
-pub returns : goal.returns
-returns c = some_script c.joined_lines_have_joined_content.ensures c.each_word_tells_number_or_none.ensures
