@@ -1,4 +1,4 @@
-//! What a dictionary says of a message that it doesn't copy: good, or its first fault with the failed AVP where it lies,
+//! What a dictionary says of a message it doesn't copy: good, or its first fault with the failed AVP where it lies,
 //! and a copy of this (RFC 6733, 7 and 7.5).
 ghost use Rattle.std.specs.Prelude.{◌≡◌, IfOk, OnErr, IsSome, IsSomeAnd};
 ghost use Rattle.dm_dict.specs.Judgement.{failed_of, shown, verdict_of};

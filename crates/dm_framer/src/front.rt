@@ -72,7 +72,7 @@ fn announced_good_length(octets: &[u8], max: u32) -> Option<usize>
     }
 }
 
-/// How many of so many octets that come the message at the front wants: all of them where it isn't whole with fewer, and
+/// How many of so many octets that come the message at the front wants: all where it isn't whole with fewer, and
 /// where its length isn't told yet or the front is bad. It never answers want of memory.
 pub(crate) fn len_until_front_is_whole(octets: &[u8], max: u32, coming: usize) -> usize
     ensures within { result ≤ coming }
