@@ -4,7 +4,7 @@ ghost use Rattle.std.specs.Option.{option_or};
 ghost use Rattle.std.specs.String.{string_bytes};
 ghost use Rattle.dm_node.specs.NodeStates.{NodeTurn as OneTurn, NodeIsOut};
 ghost use Rattle.dm_node.specs.Answers.{asks_of, turn_in};
-ghost use Rattle.dm_live.specs.Answers.{TakesOrder, TakesAs, MeetsNext, MeetsOut, HearsOut, Answers};
+ghost use Rattle.dm_live.specs.Answers.{TakesOrder, MeetsNext, MeetsOut, Answers};
 ghost use Rattle.dm_live.specs.Answers.{asked_lines, turn_lines, turns_lines, whom_asked, whom_last};
 ghost use Rattle.dm_live.specs.Answers.{refuser, policy_of};
 ghost use Rattle.dm_live.specs.Meetings.{meeting_of};
@@ -36,29 +36,15 @@ pub fn answer_asked_without_dot(
         × Answers form asked.entry (meeting_of node.old) (meeting_of node.new) more
         × (string_bytes text.new ≡ string_bytes text.old ++ more)) }
 {
-    let who = answer_order_or_keep_piece(alloc, form, node, asked, answer, text)?;
-    let last = tell_if_piece(alloc, form, node, asked, who, answer, text)?;
-    put_answer_states(text, form, node, asked, last)
-}
-
-/// Appends what is asked comes to by itself, and answers whom it concerns. A piece is kept.
-fn answer_order_or_keep_piece(
-    alloc: Global,
-    form: Form,
-    node: &mut Node,
-    asked: Asked<'_>,
-    answer: &mut Answer,
-    text: &mut String,
-) -> Result<Option<usize>, AllocError>
-    ensures { IfOk result (λ who. (own : List ℕ)
-        × TakesAs form asked.entry (meeting_of node.old) who (meeting_of node.new) own
-        × (string_bytes text.new ≡ string_bytes text.old ++ own)) }
-{
     match asked {
-        Asked::Order(order) => answer_order(alloc, form, node, order, answer, text),
+        Asked::Order(order) => {
+            let who = answer_order(alloc, form, node, order, answer, text)?;
+            put_answer_states(text, form, node, asked, who)
+        }
         Asked::Piece(conn, piece) => {
             node.keep(conn, piece)?;
-            Ok(None)
+            let last = tell_all_that_came(alloc, form, node, conn, answer, text)?;
+            put_answer_states(text, form, node, asked, last)
         }
     }
 }
@@ -145,45 +131,21 @@ fn named_neighbour(order: Order<'_>) -> Option<usize>
     }
 }
 
-/// Tells what came on the connection of a piece, and appends what that comes to; behind an order nothing. Answers whom
-/// it concerned last, `who` where nobody.
-fn tell_if_piece(
-    alloc: Global,
-    form: Form,
-    node: &mut Node,
-    asked: Asked<'_>,
-    who: Option<usize>,
-    answer: &mut Answer,
-    text: &mut String,
-) -> Result<Option<usize>, AllocError>
-    ensures { IfOk result (λ last. (turns : List OneTurn)
-        × HearsOut (policy_of form) asked.entry (meeting_of node.old) turns (meeting_of node.new)
-        × (last ≡ whom_last who turns)
-        × (string_bytes text.new ≡ string_bytes text.old ++ turns_lines form turns)) }
-{
-    match asked {
-        Asked::Piece(conn, _) => tell_all_that_came(alloc, form, node, conn, who, answer, text),
-        Asked::Order(_) => Ok(who),
-    }
-}
-
-/// Tells all that came on the connection, and appends what that comes to. Answers whom it concerned last, `who` where
-/// nobody.
+/// Tells all that came on the connection, and appends what that comes to. Answers whom it concerned last.
 fn tell_all_that_came(
     alloc: Global,
     form: Form,
     node: &mut Node,
     conn: Conn,
-    who: Option<usize>,
     answer: &mut Answer,
     text: &mut String,
 ) -> Result<Option<usize>, AllocError>
     ensures { IfOk result (λ last. (turns : List OneTurn)
         × MeetsOut (policy_of form) conn (meeting_of node.old) turns (meeting_of node.new)
-        × (last ≡ whom_last who turns)
+        × (last ≡ whom_last None turns)
         × (string_bytes text.new ≡ string_bytes text.old ++ turns_lines form turns)) }
 {
-    let mut last = who;
+    let mut last = None;
     'turn: for _ in 0..u64::MAX {
         if !tell_next_that_came(alloc, form, node, conn, &mut last, answer, text)? {
             return Ok(last);

@@ -1,17 +1,17 @@
 //! The lines of an answer.
 ghost use Rattle.std.specs.Prelude.{◌≡◌, ◌≢◌, ◌∷◌, ◌++◌, [], None, Some, IfSome, OnOk, codes};
 ghost use Rattle.std.specs.Fmt.{decimal};
+ghost use Rattle.std.specs.Option.{option_copied};
 ghost use Rattle.std.specs.String.{string_bytes};
 ghost use Rattle.hex.specs.Hex.{encode_lower};
 ghost use Rattle.dm_live.specs.AnswerLines.{action_line, action_lines, arrival_line, refusal_line};
-ghost use Rattle.dm_node.specs.Holding.{peer_at};
 ghost use Rattle.dm_node.specs.declared.fault.OrderFault.TheVariants as faults;
 ghost use Rattle.dm_peer.specs.declared.fault.PeerFault.TheVariants as peer_faults;
 ghost use Rattle.dm_node.specs.NodeSeen.{node_state_of};
 ghost use Rattle.dm_node.specs.Answers.{as_answer, turn_in};
 ghost use Rattle.dm_node.specs.declared.answer.Told.TheVariants.{Message};
 ghost use Rattle.dm_live.specs.Answers.{ignored_line, neighbour_line, event_lines, turn_lines, event_refusal_line};
-ghost use Rattle.dm_live.specs.Answers.{state_line, states_lines, concerned_state_line, states_behind};
+ghost use Rattle.dm_live.specs.Answers.{state_line, states_lines, states_behind};
 ghost use Rattle.dm_live.specs.OrderLines.{order_asked};
 ghost use Rattle.dm_live.specs.Served.{fault_answer};
 ghost use Rattle.dm_live.specs.AnswerLines.{held_words, standing_words};
@@ -203,30 +203,29 @@ pub(crate) fn put_order_refusal_line(text: &mut String, fault: OrderFault) -> Re
     }
 }
 
-/// Appends how the neighbour of the number stands.
+/// Appends how the neighbour of the number stands, where it is there. One that is alone is told without its number.
 #[tactic(auto, unfolding(crate::specs::Answers::state_line))]
-fn put_peer_state(text: &mut String, index: usize, peer: &Peer) -> Result<(), AllocError>
-    ensures { OnOk result (string_bytes text.new
-        ≡ string_bytes text.old ++ state_line Form.Several index (Some peer.now)) }
-{
-    text.push_str("state ")?;
-    put_decimal(text, index as u64)?;
-    text.push_str(" ")?;
-    put_standing_and_line_end(text, peer)
-}
-
-/// Appends how the neighbour of a place stands, where one is there.
-#[tactic(auto, unfolding(crate::specs::Answers::state_line))]
-fn put_peer_state_if_any(
+fn put_state_line_if_there(
     text: &mut String,
+    form: Form,
     index: usize,
-    place: &Option<Peer>,
+    peer: Option<&Peer>,
 ) -> Result<(), AllocError>
-    ensures { OnOk result (string_bytes text.new ≡ string_bytes text.old ++ state_line Form.Several index place.now) }
+    ensures { OnOk result (string_bytes text.new
+        ≡ string_bytes text.old ++ state_line form index (option_copied peer.entry)) }
 {
-    match place {
-        Some(peer) => put_peer_state(text, index, peer),
-        None => Ok(()),
+    match (form, peer) {
+        (_, None) => Ok(()),
+        (Form::Alone, Some(peer)) => {
+            text.push_str("state ")?;
+            put_standing_and_line_end(text, peer)
+        }
+        (Form::Several, Some(peer)) => {
+            text.push_str("state ")?;
+            put_decimal(text, index as u64)?;
+            text.push_str(" ")?;
+            put_standing_and_line_end(text, peer)
+        }
     }
 }
 
@@ -235,43 +234,9 @@ fn put_all_states(text: &mut String, places: &[Option<Peer>]) -> Result<(), Allo
     ensures { OnOk result (string_bytes text.new ≡ string_bytes text.old ++ states_lines 0 places.now) }
 {
     'place: for index in 0..places.len() {
-        put_peer_state_if_any(text, index, &places[index])?;
+        put_state_line_if_there(text, Form::Several, index, places[index].as_ref())?;
     }
     Ok(())
-}
-
-/// Appends how the neighbour of the number stands, if there is one.
-#[tactic(auto, unfolding(crate::specs::Answers::state_line))]
-fn put_neighbour_state_if_any(
-    text: &mut String,
-    node: &Node,
-    index: Option<usize>,
-) -> Result<(), AllocError>
-    ensures { OnOk result (string_bytes text.new
-        ≡ string_bytes text.old ++ concerned_state_line index (node_state_of node.now).peers) }
-{
-    let Some(index) = index else {
-        return Ok(());
-    };
-    match node.peer(index) {
-        Some(peer) => put_peer_state(text, index, peer),
-        None => Ok(()),
-    }
-}
-
-/// Appends how the peer stands that is alone.
-#[tactic(auto, unfolding(crate::specs::Answers::state_line))]
-fn put_lone_peer_state(text: &mut String, node: &Node) -> Result<(), AllocError>
-    ensures { OnOk result (string_bytes text.new
-        ≡ string_bytes text.old ++ state_line Form.Alone 0 (peer_at (node_state_of node.now).peers 0)) }
-{
-    match node.peer(0) {
-        Some(peer) => {
-            text.push_str("state ")?;
-            put_standing_and_line_end(text, peer)
-        }
-        None => Ok(()),
-    }
 }
 
 /// Appends how each of several stands behind an order that concerned all, or else the one that was concerned last; and
@@ -286,12 +251,14 @@ pub(crate) fn put_answer_states(
     ensures { OnOk result (string_bytes text.new
         ≡ string_bytes text.old ++ states_behind form asked.entry last (node_state_of node.now).peers) }
 {
-    match (form, asked) {
-        (Form::Alone, _) => put_lone_peer_state(text, node),
-        (Form::Several, Asked::Order(Order::ResetAll)) => put_all_states(
-            text,
-            node.iter().as_slice(),
-        ),
-        (Form::Several, _) => put_neighbour_state_if_any(text, node, last),
+    match (form, asked, last) {
+        (Form::Alone, _, _) => put_state_line_if_there(text, form, 0, node.peer(0)),
+        (Form::Several, Asked::Order(Order::ResetAll), _) => {
+            put_all_states(text, node.iter().as_slice())
+        }
+        (Form::Several, _, Some(index)) => {
+            put_state_line_if_there(text, form, index, node.peer(index))
+        }
+        (Form::Several, _, None) => Ok(()),
     }
 }

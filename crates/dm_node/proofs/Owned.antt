@@ -8,7 +8,8 @@ use Rattle.dm_slots.specs.Held.{Owners, owned_by, disowned_by}
 use Rattle.dm_slots.specs.Intakes.{is_conn_number}
 use Rattle.dm_node.specs.declared.owners.Holding.{Holding}
 use Rattle.dm_node.specs.Holding.{peer_at, holds_it, holds_at, AreApart}
-use Rattle.dm_node.specs.Owning.{has, owned_after, AreOwned, IsResettled}
+use Rattle.dm_node.specs.NodeStates.{concerned_in}
+use Rattle.dm_node.specs.Owning.{has, owned_after, AreOwned, IsResettled, IsReowned}
 use Rattle.dm_node.specs.Telling.{IsFree}
 use Rattle.dm_node.proofs.Growing.{still}
 use Rattle.dm_node.proofs.Places.{kept_at}
@@ -107,15 +108,22 @@ was_owned ps i f c owned true p = owned.owned c i p
 was_owned ps i f c owned false p = refl
 
 -- what is held is what was held
+pub held_as_before : (ps qs : List (Option Peer)) (who : Option ℕ) (before : Holding) (f : Owners) → AreApart qs →
+    IsReowned ps qs who before → ((c : Conn) → has before c ≡ holds_it c (concerned_in qs who)) → AreOwned f ps →
+    AreOwned f qs
+held_as_before ps qs None before f apart is same owned = subst (AreOwned f) (sym is) owned
+held_as_before ps qs (Some i) before f apart settled same owned =
+    changed ps qs i before before f f apart settled same owned
+    (λ c. subst (λ b. f c.0 ≡ (if b then Some i else (if b then None else f c.0)))
+    (sym (settled.held c)) (was_owned ps i f c owned (holds_at ps c i) refl))
+
 pub unchanged : (ps qs : List (Option Peer)) (i : ℕ) (before after : Holding) (f g : Owners) → AreApart qs →
     IsResettled ps qs i before → ((c : Conn) → has after c ≡ holds_at qs c i) → before ≡ after → AreOwned f ps →
     g ≡ f → AreOwned g qs
 unchanged ps qs i before after f g apart settled holds same owned is =
     subst (λ h. AreOwned h qs) (sym is)
-    (changed ps qs i before before f f apart settled
-    (subst (λ h. (c : Conn) → has h c ≡ holds_at qs c i) (sym same) holds) owned
-    (λ c. subst (λ b. f c.0 ≡ (if b then Some i else (if b then None else f c.0)))
-    (sym (settled.held c)) (was_owned ps i f c owned (holds_at ps c i) refl)))
+    (held_as_before ps qs (Some i) before f apart settled
+    (subst (λ h. (c : Conn) → has h c ≡ holds_at qs c i) (sym same) holds) owned)
 
 -- a neighbour that holds nothing behind it
 pub emptied : (ps qs : List (Option Peer)) (i : ℕ) (before : Holding) (f g : Owners) → AreApart qs →

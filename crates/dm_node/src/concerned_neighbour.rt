@@ -43,6 +43,7 @@ fn porter_if_there<S: Strangers>(neighbours: &Neighbours, strangers: &S) -> Opti
 
 /// The neighbour that octets on a connection that nobody holds are for: the one whose host's CER they are, else the
 /// porter; None where there is neither.
+#[inline(never)]
 fn calling_neighbour_or_porter<S: Strangers>(
     neighbours: &Neighbours,
     strangers: &S,
@@ -60,6 +61,7 @@ fn calling_neighbour_or_porter<S: Strangers>(
 }
 
 /// The neighbour that holds the connection; None where none does.
+#[inline(always)]
 fn holding_neighbour(neighbours: &Neighbours, slots: &Slots, conn: Conn) -> Option<usize>
     requires { AreOwned (owners_of slots.now) neighbours.now }
     ensures there { IfSome result (λ i. IsSome (peer_at neighbours.now i)) }
@@ -71,6 +73,7 @@ fn holding_neighbour(neighbours: &Neighbours, slots: &Slots, conn: Conn) -> Opti
 }
 
 /// The neighbour that octets on a connection are for; None where they are for none.
+#[inline(always)]
 fn neighbour_for_arrived_octets<S: Strangers>(
     neighbours: &Neighbours,
     slots: &Slots,

@@ -58,35 +58,36 @@ impl Node {
     {
         feed_front_takes_whole_message_len();
         answer.clear();
-        match self.intakes.whole_message_len(conn, piece) {
-            Some(size) => match tell_message(
-                alloc,
-                &self.own,
-                &mut self.neighbours,
-                &mut self.known,
-                &self.intakes,
-                strangers,
-                conn,
-                &piece[..size],
-                answer,
-            ) {
-                Ok(before) => {
-                    settle_connections(
-                        &self.neighbours,
-                        &mut self.intakes,
-                        before,
-                        self.most,
-                        answer,
-                    );
-                    answer.told = Told::Message;
-                    Ok(size)
-                }
-                Err(error) => {
-                    answer.clear();
-                    Err(error)
-                }
-            },
-            None => self.keep_front_and_tell(alloc, strangers, conn, piece, answer),
+        let Some(size) = self.intakes.whole_message_len(conn, piece) else {
+            return self.keep_front_and_tell(alloc, strangers, conn, piece, answer);
+        };
+        self.intakes.look_first_at(conn);
+        match tell_message(
+            alloc,
+            &self.own,
+            &mut self.neighbours,
+            &mut self.known,
+            &self.intakes,
+            strangers,
+            conn,
+            &piece[..size],
+            answer,
+        ) {
+            Ok(before) => {
+                settle_connections(
+                    &self.neighbours,
+                    &mut self.intakes,
+                    before,
+                    self.most,
+                    answer,
+                );
+                answer.told = Told::Message;
+                Ok(size)
+            }
+            Err(error) => {
+                answer.clear();
+                Err(error)
+            }
         }
     }
 

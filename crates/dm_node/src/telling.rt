@@ -110,6 +110,7 @@ fn tell_neighbour_or_handle_stranger<S: Strangers>(
 /// Tells the message that came on the connection to the neighbour that it concerns, or handles it as a stranger's, puts
 /// what it comes to into `answer`, whose actions are none before, and keeps whom it met. Returns what its neighbour
 /// held before. The CER or CEA is copied first, so that behind an `Err` all is as it was.
+#[inline(always)]
 pub(crate) fn tell_message<S: Strangers>(
     alloc: Global,
     own: &Node,

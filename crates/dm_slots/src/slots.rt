@@ -247,6 +247,22 @@ impl Slots {
         }
     }
 
+    /// Notes where the connection stands, if it is there, to look at it first. It never answers want of memory.
+    pub fn look_first_at(&mut self, conn: Conn)
+        ensures intakes { intakes_of self.new ≡ intakes_of self.old }
+        ensures owners { owners_of self.new ≡ owners_of self.old }
+    {
+        let is_first = match self.map.get_index(self.last) {
+            Some((number, _)) => *number == conn.0,
+            None => false,
+        };
+        if !is_first {
+            if let Some((index, _, _)) = self.map.get_full(&conn.0) {
+                self.last = index;
+            }
+        }
+    }
+
     /// True only where the connection is there and takes messages of at most `max` octets already. Where it stands is
     /// noted, so as to be looked at first.
     fn has_max_message_len(&mut self, conn: Conn, max: u32) -> bool

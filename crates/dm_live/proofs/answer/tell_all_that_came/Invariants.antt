@@ -1,4 +1,4 @@
-use Rattle.std.proofs.Common.{◌≡◌, ◌++◌, List}
+use Rattle.std.proofs.Common.{◌≡◌, ◌++◌, List, None}
 use Rattle.std.specs.String.{string_bytes}
 use Rattle.dm_node.specs.NodeStates.{NodeTurn}
 use Rattle.dm_live.specs.Answers.{turns_lines, whom_last, policy_of, MeetsAlong}
@@ -10,5 +10,5 @@ abbrev pub invariant-turn : goal.invariant-turn
 invariant-turn l =
     (turns : List NodeTurn)
     × MeetsAlong (policy_of l.form) l.conn (meeting_of l.fn.node) turns (meeting_of l.node)
-    × (l.last ≡ whom_last l.fn.who turns)
+    × (l.last ≡ whom_last None turns)
     × (string_bytes l.text ≡ string_bytes l.fn.text ++ turns_lines l.form turns)
