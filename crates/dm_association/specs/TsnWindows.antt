@@ -51,7 +51,7 @@ marks_with tsns at own k = if nat_eq k at then Some own else held_marks (tsn_at 
 abbrev pub octets_with : List TsnState → ℕ → List ℕ → ℕ → List ℕ
 octets_with tsns at own k = if nat_eq k at then own else slot_octets (tsn_at tsns k)
 
--- TSNs are compared modulo 2^32. A chunk may be less than 65,536 TSNs behind the first, and less than 1,024 behind the
+-- TSNs are compared modulo 2^32. A chunk may be less than 65,536 TSNs behind the first, and at most 1,024 behind the
 -- last of which something came
 abbrev pub reach : List TsnState → ℕ
 reach tsns = min 65536 (length tsns + 1024)

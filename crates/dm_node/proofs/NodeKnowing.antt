@@ -327,7 +327,7 @@ pub open_stays_after : (before : State) (q : Peer) (i : ℕ) (ks : List (Option 
     ks ≡ with_known i (known_after before q) ks
 open_stays_after before q i ks stood = sym (stays_at (known_after before q) ks i (λ a. known_so before q a stood))
 
-pub open_stays : (exchange : List ℕ) (c : Conn) (before : State) (q : Peer) (i : ℕ) (ks : List (Option Acquaintance)) →
+open_stays : (exchange : List ℕ) (c : Conn) (before : State) (q : Peer) (i : ℕ) (ks : List (Option Acquaintance)) →
     is_open before ≡ true → exchange ≡ [] → nat_lt i (length ks) ≡ true →
     ks ≡ with_known i (known_if_any exchange c before q) (given_place i ks)
 open_stays exchange c before q i ks stood none there =
@@ -335,14 +335,8 @@ open_stays exchange c before q i ks stood none there =
     ∙ stays_at (known_if_any exchange c before q) ks i
     (λ a. ap (λ m. known_if_any m c before q a) none ∙ known_so before q a stood))
 
--- of what it is told nothing is copied
-pub open_copies_none : (octets exchange : List ℕ) (before : State) →
-    exchange ≡ cond (is_exchange_to before octets) octets [] → is_open before ≡ true → exchange ≡ []
-open_copies_none octets exchange before is stood =
-    is ∙ ap (λ b. cond (not b && spells_exchange octets) octets []) stood
-
--- and its place is there
-pub open_has_place : (policy : Policy) (c : Conn) (octets : List ℕ) (n : Node) (ps qs : List (Option Peer))
+-- its place is there
+open_has_place : (policy : Policy) (c : Conn) (octets : List ℕ) (n : Node) (ps qs : List (Option Peer))
     (who : Option ℕ) (actions : List Action) (ks : List (Option Acquaintance)) (before : State) (i : ℕ) →
     AreKnown ps ks → IsStateOf (IsAddressed policy ps c octets) ps before →
     NodeMoves policy c octets n ps who actions qs → who ≡ Some i → is_open before ≡ true → nat_lt i (length ks) ≡ true
@@ -355,6 +349,17 @@ open_has_place policy c octets n ps qs who actions ks before i there looked move
         let copied = room_for policy c octets n ps qs who actions ks before i there looked moved is e in
         absurd (two_truths (is_open before) stood
         (not-true (is_open before) (and_parts (not (is_open before)) (spells_exchange octets) copied).0))
+
+-- so what is known stays at what it is told
+pub open_meets : (policy : Policy) (c : Conn) (octets : List ℕ) (n : Node) (ps qs : List (Option Peer))
+    (who : Option ℕ) (actions : List Action) (ks : List (Option Acquaintance)) (before : State) → AreKnown ps ks →
+    IsStateOf (IsAddressed policy ps c octets) ps before → NodeMoves policy c octets n ps who actions qs →
+    is_open before ≡ true → MeetsAny (λ state q a. known_at c state q octets a) who ps qs ks ks
+open_meets policy c octets n ps qs who actions ks before there looked moved stood =
+    meets policy c octets n ps qs who actions ks ks ks before [] looked
+    (sym (ap (λ b. cond (not b && spells_exchange octets) octets []) stood)) refl moved
+    (λ i q is behind. open_stays [] c before q i ks stood refl
+    (open_has_place policy c octets n ps qs who actions ks before i there looked moved is stood)) (λ none. refl)
 
 -- no octets are nobody's CER
 calls_none : caller_of [] ≡ None

@@ -4,9 +4,11 @@ use Rattle.dm_machine.specs.declared.connection.Conn.{Conn}
 use Rattle.dm_peer.specs.declared.peer.Peer.{Peer}
 use Rattle.dm_peer.specs.Places.{is_on}
 use Rattle.dm_slots.specs.Held.{Owners}
+use Rattle.dm_slots.specs.Intakes.{Intakes, raised_at}
 use Rattle.dm_slots.specs.Raised.{own_of, other_of}
 use Rattle.dm_node.specs.declared.owners.Holding.{Holding}
-use Rattle.dm_node.specs.Holding.{peer_at, holds_at}
+use Rattle.dm_node.specs.Holding.{peer_at, holds_it, holds_at}
+use Rattle.dm_node.specs.NodeStates.{raised_for}
 
 -- the connections that a neighbour initiated and accepted, where there is one
 abbrev pub initiated_of : Option Peer → Option Conn
@@ -20,6 +22,10 @@ accepted_of (Some p) = other_of p
 -- the connection is one of those that a peer holds
 abbrev pub has : Holding → Conn → Bool
 has held c = is_on held.initiated c || is_on held.accepted c
+
+-- one connection and no other, whichever side opened it
+abbrev pub one_held : Conn → Holding
+one_held conn = record { initiated = Some conn; accepted = None }
 
 -- whose it is where what a peer held is nobody's and what it holds is of the neighbour of this number
 abbrev pub owned_after : Owners → Holding → Holding → ℕ → Conn → Option ℕ
@@ -39,3 +45,9 @@ pub record IsResettled (ps qs : List (Option Peer)) (i : ℕ) (before : Holding)
 abbrev pub IsReowned : List (Option Peer) → List (Option Peer) → Option ℕ → Holding → Type 0
 IsReowned ps qs None before = qs ≡ ps
 IsReowned ps qs (Some i) before = IsResettled ps qs i before
+
+-- a neighbour, where there is one, is open on this connection, and held it and no other before: it holds what it held,
+-- and just this connection takes longer messages
+pub record IsOpenAsBefore (before : Holding) (o : Option Peer) (conn : Conn) : Type 0 where
+  pub held : (c : Conn) → has before c ≡ holds_it c o
+  pub raised : (most : ℕ) (f : Intakes) → raised_for most o f ≡ raised_at most (Some conn) f

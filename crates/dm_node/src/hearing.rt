@@ -58,10 +58,10 @@ impl Node {
     {
         feed_front_takes_whole_message_len();
         answer.clear();
+        self.look_first_at(conn);
         let Some(size) = self.intakes.whole_message_len(conn, piece) else {
             return self.keep_front_and_tell(alloc, strangers, conn, piece, answer);
         };
-        self.intakes.look_first_at(conn);
         match tell_message(
             alloc,
             &self.own,
@@ -73,14 +73,8 @@ impl Node {
             &piece[..size],
             answer,
         ) {
-            Ok(before) => {
-                settle_connections(
-                    &self.neighbours,
-                    &mut self.intakes,
-                    before,
-                    self.most,
-                    answer,
-                );
+            Ok(told) => {
+                settle_connections(&self.neighbours, &mut self.intakes, told, self.most, answer);
                 answer.told = Told::Message;
                 Ok(size)
             }

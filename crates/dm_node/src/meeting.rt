@@ -1,6 +1,5 @@
 //! Whom the neighbours of a node meet by what they are told.
 ghost use Rattle.std.specs.Prelude.{◌≡◌, ℕ, true, false, cond, nat_lt, length, [], None, Some, IfOk, OnOk, OnErr};
-ghost use Rattle.dm_machine.specs.Moves.{is_open};
 ghost use Rattle.dm_node.specs.Holding.{peer_at};
 ghost use Rattle.dm_node.specs.NodeKnown.{known_of, HasSparePlace, with_known, given_place};
 ghost use Rattle.dm_peer.specs.declared.peer.Peer.{Peer as OnePeer};
@@ -35,8 +34,7 @@ pub(crate) fn copy_and_reserve_if_exchange(
     }
 }
 
-/// Changes what is known of the neighbour that was told what came on the connection: `who`, if one was. What is known
-/// of one that was open before stays.
+/// Changes what is known of the neighbour that was told what came on the connection: `who`, if one was.
 pub(crate) fn meet_or_set_waiting_cer(
     neighbours: &Neighbours,
     known: &mut Acquaintances,
@@ -46,15 +44,10 @@ pub(crate) fn meet_or_set_waiting_cer(
     before: State,
 )
     requires room { (i : ℕ) → who ≡ Some i → nat_lt i (length (known_of known.old)) ≡ false → HasSparePlace known.old }
-    requires there { (i : ℕ) → who ≡ Some i → is_open before ≡ true → nat_lt i (length (known_of known.old)) ≡ true }
-    requires copied { is_open before ≡ true → exchange ≡ [] }
     ensures met { (i : ℕ) (q : OnePeer) → who ≡ Some i → peer_at neighbours.now i ≡ Some q → known_of known.new
         ≡ with_known i (known_if_any exchange conn before q) (given_place i (known_of known.old)) }
     ensures unmet { who ≡ None → known_of known.new ≡ known_of known.old }
 {
-    if before.is_open() {
-        return;
-    }
     if let Some(index) = who {
         known.push_place_if_missing(index);
         if let Some(peer) = neighbours.peer(index) {
@@ -63,8 +56,7 @@ pub(crate) fn meet_or_set_waiting_cer(
     }
 }
 
-/// Changes what is known of the neighbour that was told an event that brought no message: `who`, if one was. What is
-/// known of one that was open before stays.
+/// Changes what is known of the neighbour that was told an event that brought no message: `who`, if one was.
 pub(crate) fn meet_if_opened_by_event(
     neighbours: &Neighbours,
     known: &mut Acquaintances,
@@ -75,11 +67,9 @@ pub(crate) fn meet_if_opened_by_event(
         ≡ with_known i (known_after before q) (known_of known.old) }
     ensures unmet { who ≡ None → known_of known.new ≡ known_of known.old }
 {
-    if !before.is_open() {
-        if let Some(index) = who {
-            if let Some(peer) = neighbours.peer(index) {
-                known.meet_if_opened_by_event(index, before, peer);
-            }
+    if let Some(index) = who {
+        if let Some(peer) = neighbours.peer(index) {
+            known.meet_if_opened_by_event(index, before, peer);
         }
     }
 }

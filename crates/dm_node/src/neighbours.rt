@@ -3,6 +3,7 @@ ghost use Rattle.dm_node.specs.Neighbourhoods.{IsNeighbourhood};
 ghost use Rattle.dm_node.specs.NodeHeld.{AreKept};
 
 use crate::AddFault;
+use crate::connection_of_open_peer::connection_of_open_peer;
 use crate::counting::{count_after_adding_one, count_after_removing};
 use crate::hosts::Hosts;
 use crate::owners::{Holding, Snapshot, held_connections_if_any};
@@ -47,15 +48,17 @@ impl Neighbours {
     ghost use Rattle.std.specs.Slice.Iter.{iter_rest};
     ghost use Rattle.std.specs.Iterator.Adapters.{IterYieldsInOrder};
     ghost use Rattle.dm_base.specs.Before.{lower};
+    ghost use Rattle.dm_machine.specs.Moves.{is_open};
     ghost use Rattle.dm_machine.specs.declared.connection.Conn.{Conn};
     ghost use Rattle.dm_peer.specs.declared.peer.Peer.{Peer};
     ghost use Rattle.dm_node.specs.Adding.{with_new};
     ghost use Rattle.dm_node.specs.Emptying.{without_peer, with_set_back, all_set_back};
     ghost use Rattle.dm_node.specs.Holding.{peer_at, host_at, holds, holds_it, holds_at, IsKnown};
     ghost use Rattle.dm_node.specs.NodeKnown.{peer_state};
-    ghost use Rattle.dm_node.specs.NodeStates.{concerned_in};
+    ghost use Rattle.dm_node.specs.NodeStates.{concerned_in, raised_for};
     ghost use Rattle.dm_node.specs.NodeOrders.{close_if_any, closes_of_any};
-    ghost use Rattle.dm_node.specs.Owning.{has, initiated_of, accepted_of};
+    ghost use Rattle.dm_node.specs.Owning.{has, one_held, initiated_of, accepted_of, IsOpenAsBefore};
+    ghost use Rattle.dm_slots.specs.Intakes.{Intakes, raised_at};
     ghost use Rattle.dm_node.specs.Strangers.{present};
     ghost use Rattle.dm_node.specs.declared.fault.AddFault.TheVariants.{Known, NoMemory};
 
@@ -189,6 +192,34 @@ impl Neighbours {
                 state: State::Closed,
                 held,
             },
+        }
+    }
+
+    /// The connection on which the neighbour that an event concerns is open, which it holds and no other; None where it
+    /// isn't open, and where the event concerns none. It never answers want of memory.
+    #[inline(always)]
+    pub(crate) fn open_connection(&self, who: Option<usize>) -> Option<Conn>
+        ensures state { IfSome result (λ conn. is_open (peer_state (concerned_in self.now who)) ≡ true) }
+        ensures held { IfSome result (λ conn. (c : Conn)
+            → has (one_held conn) c ≡ holds_it c (concerned_in self.now who)) }
+        ensures raised { IfSome result (λ conn. (most : ℕ) (f : Intakes)
+            → raised_for most (concerned_in self.now who) f ≡ raised_at most (Some conn) f) }
+    {
+        match self.peer_if_any(who) {
+            Some(peer) => connection_of_open_peer(peer),
+            None => None,
+        }
+    }
+
+    /// The connection, where the neighbour that an event concerned is open on it; else None. It never answers want of
+    /// memory.
+    #[inline(always)]
+    pub(crate) fn open_as_before(&self, who: Option<usize>, before: Conn) -> Option<Conn>
+        ensures { IfSome result (IsOpenAsBefore (one_held before) (concerned_in self.now who)) }
+    {
+        match self.open_connection(who) {
+            Some(now) if now.0 == before.0 => Some(now),
+            _ => None,
         }
     }
 

@@ -173,6 +173,15 @@ impl Node {
         self.intakes.shut(conn);
     }
 
+    /// Notes where the connection stands, to look at it first. It never answers want of memory.
+    #[inline(always)]
+    pub(crate) fn look_first_at(&mut self, conn: Conn)
+        ensures state { node_state_of self.new ≡ node_state_of self.old }
+        ensures known { node_known_of self.new ≡ node_known_of self.old }
+    {
+        self.intakes.look_first_at(conn);
+    }
+
     /// Keeps a piece that came on the connection, cut anyhow, to be told message by message by [`next`](Node::next).
     /// What comes behind a fault, and on a connection that isn't there, is thrown away. Where memory is wanted the node
     /// is as it was. Who need not keep it has [`hear`](Node::hear).
@@ -248,15 +257,9 @@ impl Node {
             event,
             answer,
         ) {
-            Ok(before) => {
+            Ok(told) => {
                 self.intakes.discard_rest_of_stream(alloc, conn);
-                settle_connections(
-                    &self.neighbours,
-                    &mut self.intakes,
-                    before,
-                    self.most,
-                    answer,
-                );
+                settle_connections(&self.neighbours, &mut self.intakes, told, self.most, answer);
                 answer.told = Told::Fault;
                 Ok(())
             }
@@ -325,12 +328,12 @@ impl Node {
                 message,
                 answer,
             ) {
-                Ok(before) => {
+                Ok(told) => {
                     self.intakes.skip_front_message(conn);
                     settle_connections(
                         &self.neighbours,
                         &mut self.intakes,
-                        before,
+                        told,
                         self.most,
                         answer,
                     );

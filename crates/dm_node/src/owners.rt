@@ -1,13 +1,14 @@
 //! What a neighbour holds, and whose each connection is.
-ghost use Rattle.std.specs.Prelude.{◌≡◌, ◌++◌, ℕ, true, List, Option, None, Some, IfSome};
+ghost use Rattle.std.specs.Prelude.{◌≡◌, ◌++◌, true, List, Option};
 ghost use Rattle.dm_machine.specs.declared.connection.Conn.{Conn};
 ghost use Rattle.std.specs.Option.{option_copied};
 ghost use Rattle.dm_node.specs.Holding.{holds, holds_it, AreApart};
 ghost use Rattle.dm_node.specs.NodeOrders.{close_if_any, closes_of_any};
-ghost use Rattle.dm_node.specs.NodeStates.{concerned_in, raised_for};
-ghost use Rattle.dm_node.specs.Owning.{has, initiated_of, accepted_of, owned_after, AreOwned, IsReowned};
+ghost use Rattle.dm_node.specs.NodeStates.{concerned_in};
+ghost use Rattle.dm_node.specs.Owning.{has, one_held, initiated_of, accepted_of, owned_after};
+ghost use Rattle.dm_node.specs.Owning.{AreOwned, IsReowned};
 ghost use Rattle.dm_slots.specs.Held.{intakes_of, owners_of};
-ghost use Rattle.dm_slots.specs.Intakes.{Intakes, is_there, raised_at};
+ghost use Rattle.dm_slots.specs.Intakes.{is_there};
 ghost use Rattle.dm_peer.specs.declared.peer.Peer.{Peer};
 ghost use Rattle.dm_slots.specs.Raised.{own_of, other_of};
 
@@ -47,6 +48,16 @@ fn is_holding_unchanged(before: Holding, after: Holding) -> bool
     is_same_conn(before.initiated, after.initiated) && is_same_conn(before.accepted, after.accepted)
 }
 
+/// One connection and no other, whichever side opened it.
+pub(crate) fn holding_one(conn: Conn) -> Holding
+    ensures { result ≡ one_held conn }
+{
+    Holding {
+        initiated: Some(conn),
+        accepted: None,
+    }
+}
+
 /// What the peer holds.
 fn held_connections_of(peer: &Peer) -> Holding
     ensures initiated { result.initiated ≡ own_of peer.now }
@@ -75,43 +86,6 @@ pub(crate) fn held_connections_if_any(peer: Option<&Peer>) -> Holding
             initiated: None,
             accepted: None,
         },
-    }
-}
-
-/// The connection, where it was there before and no other was; else None.
-#[inline(always)]
-fn connection_if_only_one(
-    now: Option<Conn>,
-    before: Option<Conn>,
-    other: Option<Conn>,
-) -> Option<Conn>
-    ensures { IfSome result (λ c. (now ≡ Some c) × (before ≡ Some c) × (other ≡ None)) }
-{
-    match (now, before, other) {
-        (Some(now), Some(before), None) if now.0 == before.0 => Some(now),
-        _ => None,
-    }
-}
-
-/// The connection on which the peer is open, where it held that and no other before too; else None.
-#[inline(always)]
-pub(crate) fn connection_open_as_before(before: Holding, peer: Option<&Peer>) -> Option<Conn>
-    ensures held { IfSome result (λ conn. (c : Conn) → has before c ≡ holds_it c (option_copied peer.entry)) }
-    ensures raised { IfSome result (λ conn. (most : ℕ) (f : Intakes)
-        → raised_for most (option_copied peer.entry) f ≡ raised_at most (Some conn) f) }
-{
-    shaped_cores_have_eight_forms();
-    match peer {
-        Some(peer) => match peer.state() {
-            State::IOpen => {
-                connection_if_only_one(peer.initiated(), before.initiated, before.accepted)
-            }
-            State::ROpen => {
-                connection_if_only_one(peer.accepted(), before.accepted, before.initiated)
-            }
-            _ => None,
-        },
-        None => None,
     }
 }
 

@@ -188,14 +188,8 @@ impl Node {
             event,
             answer,
         ) {
-            Ok(before) => {
-                settle_connections(
-                    &self.neighbours,
-                    &mut self.intakes,
-                    before,
-                    self.most,
-                    answer,
-                );
+            Ok(told) => {
+                settle_connections(&self.neighbours, &mut self.intakes, told, self.most, answer);
                 answer.told = Told::Event;
                 Ok(())
             }

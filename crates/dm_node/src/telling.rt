@@ -1,11 +1,11 @@
 //! An event is told to the one neighbour of a node that it concerns; where it concerns none it is a stranger's.
-ghost use Rattle.std.specs.Prelude.{◌≡◌, ◌⊎◌, ℕ, true, List, [], All, Err, IfOk, IfErr, OnOk, OnErr};
+ghost use Rattle.std.specs.Prelude.{◌≡◌, ◌⊎◌, ℕ, true, List, [], All, Err, IfOk, IfErr, IfSome, OnOk, OnErr};
 ghost use Rattle.dm_machine.specs.declared.connection.Conn.{Conn};
 ghost use Rattle.dm_node.specs.Declining.{IsDeclinedHere, GoesByRule, GoesByAllRules, EventTakesMemory};
 ghost use Rattle.dm_node.specs.NodeHeld.{AllHeldAreThere};
 ghost use Rattle.dm_node.specs.NodeKnown.{known_of, AreKnown, MeetsAny, IsCopied};
-ghost use Rattle.dm_node.specs.NodeStates.{TakesMemoryAt};
-ghost use Rattle.dm_node.specs.Owning.{AreOwned, IsReowned};
+ghost use Rattle.dm_node.specs.NodeStates.{TakesMemoryAt, concerned_in};
+ghost use Rattle.dm_node.specs.Owning.{AreOwned, IsOpenAsBefore, IsReowned};
 ghost use Rattle.dm_node.specs.Strangers.{NodeMoves, NodeIsTold};
 ghost use Rattle.dm_node.specs.Telling.{IsFree, IsStrangeCer, IsWhose, IsRefusedHere, StartsFree, told_of};
 ghost use Rattle.dm_node.specs.declared.fault.OrderFault.TheVariants as faults;
@@ -24,7 +24,8 @@ use crate::meeting::{
 };
 use crate::neighbours::{Neighbours, neighbours_are_apart_and_sound};
 use crate::one_told::tell_one_neighbour;
-use crate::owners::Holding;
+use crate::owners::holding_one;
+use crate::settling::ToSettle;
 use crate::stranger_events::handle_stranger_event;
 use crate::{Answer, NodeEvent, OrderFault, Strangers};
 use dm_base::Node;
@@ -108,8 +109,8 @@ fn tell_neighbour_or_handle_stranger<S: Strangers>(
 }
 
 /// Tells the message that came on the connection to the neighbour that it concerns, or handles it as a stranger's, puts
-/// what it comes to into `answer`, whose actions are none before, and keeps whom it met. Returns what its neighbour
-/// held before. The CER or CEA is copied first, so that behind an `Err` all is as it was.
+/// what it comes to into `answer`, whose actions are none before, and keeps whom it met. Returns what is settled
+/// behind it. The CER or CEA is copied first, so that behind an `Err` all is as it was.
 #[inline(always)]
 pub(crate) fn tell_message<S: Strangers>(
     alloc: Global,
@@ -121,7 +122,7 @@ pub(crate) fn tell_message<S: Strangers>(
     conn: Conn,
     octets: &[u8],
     answer: &mut Answer,
-) -> Result<Holding, AllocError>
+) -> Result<ToSettle, AllocError>
     requires none { answer.old.actions.items ≡ [] }
     requires places { AreKnown neighbours.old (known_of known.old) }
     requires owned { AreOwned (owners_of slots.now) neighbours.old }
@@ -131,7 +132,10 @@ pub(crate) fn tell_message<S: Strangers>(
         → IsFree neighbours.new c) }
     ensures held { (f : AllIntakes) → AllHeldAreThere neighbours.old f → NamesThere (Arrived conn octets.now) f
         → AllHeldAreThere neighbours.new f }
-    ensures before { IfOk result (IsReowned neighbours.old neighbours.new answer.new.neighbour) }
+    ensures before { IfOk result (λ told.
+        IsReowned neighbours.old neighbours.new answer.new.neighbour told.before) }
+    ensures stays { IfOk result (λ told. IfSome told.open_as_before
+        (IsOpenAsBefore told.before (concerned_in neighbours.new answer.new.neighbour))) }
     ensures places { AreKnown neighbours.new (known_of known.new) }
     ensures met { OnOk result (MeetsAny (λ state q a. known_at conn state q octets.now a) answer.new.neighbour
         neighbours.old neighbours.new (known_of known.old) (known_of known.new)) }
@@ -147,6 +151,17 @@ pub(crate) fn tell_message<S: Strangers>(
         Ok(who) => who,
         Err(_) => unreachable!(),
     };
+    if let Some(on) = neighbours.open_connection(who) {
+        return match tell_neighbour_or_handle_stranger(
+            alloc, own, neighbours, strangers, who, event, answer,
+        ) {
+            Ok(()) => Ok(ToSettle {
+                before: holding_one(on),
+                open_as_before: neighbours.open_as_before(answer.neighbour, on),
+            }),
+            Err(_) => Err(AllocError),
+        };
+    }
     let before = neighbours.snapshot(who);
     let exchange = match copy_and_reserve_if_exchange(alloc, known, before.state, octets) {
         Ok(exchange) => exchange,
@@ -162,15 +177,19 @@ pub(crate) fn tell_message<S: Strangers>(
                 conn,
                 before.state,
             );
-            Ok(before.held)
+            Ok(ToSettle {
+                before: before.held,
+                open_as_before: None,
+            })
         }
         Err(_) => Err(AllocError),
     }
 }
 
 /// Tells an event that is no stranger's CER to the neighbour that it concerns, if any, puts what it comes to into
-/// `answer`, whose actions are none before, and keeps whom the end of an election met by it. Returns what its neighbour
-/// held before; behind an `Err` the neighbours and whom they met are as they were.
+/// `answer`, whose actions are none before, and keeps whom the end of an election met by it. Returns what is
+/// settled behind it; behind an `Err` the neighbours and whom they met are as they were.
+#[inline(always)]
 pub(crate) fn tell_event<S: Strangers>(
     alloc: Global,
     own: &Node,
@@ -180,7 +199,7 @@ pub(crate) fn tell_event<S: Strangers>(
     strangers: &S,
     event: NodeEvent<'_>,
     answer: &mut Answer,
-) -> Result<Holding, OrderFault>
+) -> Result<ToSettle, OrderFault>
     requires none { answer.old.actions.items ≡ [] }
     requires places { AreKnown neighbours.old (known_of known.old) }
     requires owned { AreOwned (owners_of slots.now) neighbours.old }
@@ -192,7 +211,10 @@ pub(crate) fn tell_event<S: Strangers>(
         → IsFree neighbours.new c) }
     ensures held { (f : AllIntakes) → AllHeldAreThere neighbours.old f → NamesThere (told_of event.entry) f
         → AllHeldAreThere neighbours.new f }
-    ensures before { IfOk result (IsReowned neighbours.old neighbours.new answer.new.neighbour) }
+    ensures before { IfOk result (λ told.
+        IsReowned neighbours.old neighbours.new answer.new.neighbour told.before) }
+    ensures stays { IfOk result (λ told. IfSome told.open_as_before
+        (IsOpenAsBefore told.before (concerned_in neighbours.new answer.new.neighbour))) }
     ensures places { AreKnown neighbours.new (known_of known.new) }
     ensures met { OnOk result (MeetsAny known_after answer.new.neighbour neighbours.old neighbours.new
         (known_of known.old) (known_of known.new)) }
@@ -213,11 +235,25 @@ pub(crate) fn tell_event<S: Strangers>(
         Ok(who) => who,
         Err(fault) => return Err(fault),
     };
+    if let Some(on) = neighbours.open_connection(who) {
+        return match tell_neighbour_or_handle_stranger(
+            alloc, own, neighbours, strangers, who, event, answer,
+        ) {
+            Ok(()) => Ok(ToSettle {
+                before: holding_one(on),
+                open_as_before: neighbours.open_as_before(answer.neighbour, on),
+            }),
+            Err(fault) => Err(fault),
+        };
+    }
     let before = neighbours.snapshot(who);
     match tell_neighbour_or_handle_stranger(alloc, own, neighbours, strangers, who, event, answer) {
         Ok(()) => {
             meet_if_opened_by_event(neighbours, known, answer.neighbour, before.state);
-            Ok(before.held)
+            Ok(ToSettle {
+                before: before.held,
+                open_as_before: None,
+            })
         }
         Err(fault) => Err(fault),
     }

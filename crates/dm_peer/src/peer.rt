@@ -138,6 +138,7 @@ impl Peer {
     }
 
     /// The connection that this peer opened. It never answers want of memory.
+    #[inline(always)]
     pub fn initiated(&self) -> Option<Conn>
         ensures { result ≡ held_as Initiated self.now.standing.core.held }
     {
@@ -145,6 +146,7 @@ impl Peer {
     }
 
     /// The connection that the other side opened. It never answers want of memory.
+    #[inline(always)]
     pub fn accepted(&self) -> Option<Conn>
         ensures { result ≡ held_as Accepted self.now.standing.core.held }
     {

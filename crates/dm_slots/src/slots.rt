@@ -247,43 +247,54 @@ impl Slots {
         }
     }
 
+    /// True only where the connection is looked at first.
+    #[inline(always)]
+    fn is_looked_at_first(&self, conn: Conn) -> bool {
+        match self.map.get_index(self.last) {
+            Some((number, _)) => *number == conn.0,
+            None => false,
+        }
+    }
+
+    /// Searches for the connection and notes where it stands, if it is there.
+    #[inline(never)]
+    fn search_and_look_first_at(&mut self, conn: Conn)
+        ensures intakes { intakes_of self.new ≡ intakes_of self.old }
+        ensures owners { owners_of self.new ≡ owners_of self.old }
+    {
+        if let Some((index, _, _)) = self.map.get_full(&conn.0) {
+            self.last = index;
+        }
+    }
+
     /// Notes where the connection stands, if it is there, to look at it first. It never answers want of memory.
+    #[inline(always)]
     pub fn look_first_at(&mut self, conn: Conn)
         ensures intakes { intakes_of self.new ≡ intakes_of self.old }
         ensures owners { owners_of self.new ≡ owners_of self.old }
     {
-        let is_first = match self.map.get_index(self.last) {
-            Some((number, _)) => *number == conn.0,
-            None => false,
-        };
-        if !is_first {
-            if let Some((index, _, _)) = self.map.get_full(&conn.0) {
-                self.last = index;
-            }
+        if !self.is_looked_at_first(conn) {
+            self.search_and_look_first_at(conn);
         }
     }
 
     /// True only where the connection is there and takes messages of at most `max` octets already. Where it stands is
     /// noted, so as to be looked at first.
+    #[inline(always)]
     fn has_max_message_len(&mut self, conn: Conn, max: u32) -> bool
         ensures raised { result ≡ true → (i : OneIntake) × (intakes_of self.old conn.0 ≡ Some i) × (i.max ≡ max) }
         ensures same { intakes_of self.new ≡ intakes_of self.old }
         ensures owners { owners_of self.new ≡ owners_of self.old }
     {
-        match self.map.get_index(self.last) {
-            Some((number, slot)) if *number == conn.0 => slot.intake.max_message_len() == max,
-            _ => match self.map.get_full(&conn.0) {
-                Some((index, _, slot)) => {
-                    let is_raised = slot.intake.max_message_len() == max;
-                    self.last = index;
-                    is_raised
-                }
-                None => false,
-            },
-        }
+        self.look_first_at(conn);
+        let Some(intake) = self.intake(conn) else {
+            return false;
+        };
+        intake.max_message_len() == max
     }
 
     /// The connection, where it is there, takes messages of at most `max` octets.
+    #[inline(never)]
     fn set_max_message_len(&mut self, conn: Conn, max: u32)
         ensures raised { intakes_of self.new ≡ raised_at max (Some conn) (intakes_of self.old) }
         ensures owners { owners_of self.new ≡ owners_of self.old }
@@ -294,6 +305,7 @@ impl Slots {
     }
 
     /// The connection, if it is one and there, takes messages of at most `max` octets. It never answers want of memory.
+    #[inline(always)]
     pub fn set_max_message_len_if_there(&mut self, conn: Option<Conn>, max: u32)
         ensures raised { intakes_of self.new ≡ raised_at max conn (intakes_of self.old) }
         ensures owners { owners_of self.new ≡ owners_of self.old }

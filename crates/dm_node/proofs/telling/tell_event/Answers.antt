@@ -1,10 +1,12 @@
 -- Whom the event met, and when memory was wanted for it.
-use Rattle.std.proofs.Common.{refl}
+use Rattle.std.proofs.Common.{refl, None, sym, subst}
 use Rattle.dm_slots.specs.Acquaintances.{known_after}
-use Rattle.dm_node.specs.NodeKnown.{known_of}
-use Rattle.dm_node.proofs.NodeKnowing.{state_looked, meets_after, known_told}
+use Rattle.dm_node.specs.NodeKnown.{known_of, peer_state}
+use Rattle.dm_node.specs.NodeStates.{concerned_in}
+use Rattle.dm_node.proofs.NodeKnowing.{state_looked, meets_after, known_told, open_stays_after}
 use Rattle.dm_node.proofs.Basics.{not_done, same_fault}
 use Rattle.dm_node.proofs.Ruling.{event_wants, done_goes, failed_goes}
+use Rattle.dm_node.specs.Owning.{one_held, IsReowned}
 use Rattle.dm_node.proofs.Reowned.{held_looked, reowned_told}
 use Rattle.dm_node.proofs.telling.tell_event.Goals as goal
 
@@ -12,28 +14,31 @@ pub returns-in-Ok-tell_neighbour_or_handle_stranger-clause-met : goal.returns-in
 returns-in-Ok-tell_neighbour_or_handle_stranger-clause-met g c =
     let policy = g.S.Strangers.policy c.args.strangers.now in
     let ps = c.args.neighbours.now in
-    let looked = state_looked policy ps c.args.event c.in-Ok.who _
-    c.neighbours_are_apart_and_sound.ensures.apart c.in-Ok.ensures.concerned c.in-Ok.ensures.nobody
-    c.snapshot-before.ensures.state in
+    let before = peer_state (concerned_in ps c.in-Ok.who) in
+    let looked = state_looked policy ps c.args.event c.in-Ok.who before
+    c.neighbours_are_apart_and_sound.ensures.apart c.in-Ok.ensures.concerned c.in-Ok.ensures.nobody refl in
     meets_after policy c.args.event c.args.own.now ps c.tell_neighbour_or_handle_stranger.new.neighbours
-    c.tell_neighbour_or_handle_stranger.new.answer.neighbour c.tell_neighbour_or_handle_stranger.new.answer.actions.items (known_of c.args.known.now)
-    (known_of c.meet_if_opened_by_event.new.known) c.snapshot-before.result.state c.requires.calm looked c.requires.places
-    c.in-Ok-tell_neighbour_or_handle_stranger.ensures.told c.meet_if_opened_by_event.ensures.met c.meet_if_opened_by_event.ensures.unmet
+    c.tell_neighbour_or_handle_stranger.new.answer.neighbour c.tell_neighbour_or_handle_stranger.new.answer.actions.items
+    (known_of c.args.known.now) (known_of c.args.known.now) before c.requires.calm looked c.requires.places
+    c.in-Ok-tell_neighbour_or_handle_stranger.ensures.told
+    (λ i q is there. open_stays_after before q i (known_of c.args.known.now) c.in-Some.ensures.state) (λ none. refl)
 
 pub returns-in-Ok-tell_neighbour_or_handle_stranger-clause-places : goal.returns-in-Ok-tell_neighbour_or_handle_stranger-clause-places
 returns-in-Ok-tell_neighbour_or_handle_stranger-clause-places g c =
     let policy = g.S.Strangers.policy c.args.strangers.now in
     let ps = c.args.neighbours.now in
-    let looked = state_looked policy ps c.args.event c.in-Ok.who _
-    c.neighbours_are_apart_and_sound.ensures.apart c.in-Ok.ensures.concerned c.in-Ok.ensures.nobody
-    c.snapshot-before.ensures.state in
+    let before = peer_state (concerned_in ps c.in-Ok.who) in
+    let looked = state_looked policy ps c.args.event c.in-Ok.who before
+    c.neighbours_are_apart_and_sound.ensures.apart c.in-Ok.ensures.concerned c.in-Ok.ensures.nobody refl in
     known_told known_after policy c.args.event c.args.own.now ps c.tell_neighbour_or_handle_stranger.new.neighbours
-    c.tell_neighbour_or_handle_stranger.new.answer.neighbour c.tell_neighbour_or_handle_stranger.new.answer.actions.items (known_of c.args.known.now)
-    (known_of c.meet_if_opened_by_event.new.known) c.requires.calm c.requires.places c.in-Ok-tell_neighbour_or_handle_stranger.ensures.told
+    c.tell_neighbour_or_handle_stranger.new.answer.neighbour c.tell_neighbour_or_handle_stranger.new.answer.actions.items
+    (known_of c.args.known.now) (known_of c.args.known.now) c.requires.calm c.requires.places
+    c.in-Ok-tell_neighbour_or_handle_stranger.ensures.told
     (meets_after policy c.args.event c.args.own.now ps c.tell_neighbour_or_handle_stranger.new.neighbours
-    c.tell_neighbour_or_handle_stranger.new.answer.neighbour c.tell_neighbour_or_handle_stranger.new.answer.actions.items (known_of c.args.known.now)
-    (known_of c.meet_if_opened_by_event.new.known) c.snapshot-before.result.state c.requires.calm looked c.requires.places
-    c.in-Ok-tell_neighbour_or_handle_stranger.ensures.told c.meet_if_opened_by_event.ensures.met c.meet_if_opened_by_event.ensures.unmet)
+    c.tell_neighbour_or_handle_stranger.new.answer.neighbour c.tell_neighbour_or_handle_stranger.new.answer.actions.items
+    (known_of c.args.known.now) (known_of c.args.known.now) before c.requires.calm looked c.requires.places
+    c.in-Ok-tell_neighbour_or_handle_stranger.ensures.told
+    (λ i q is there. open_stays_after before q i (known_of c.args.known.now) c.in-Some.ensures.state) (λ none. refl))
 
 pub returns-in-Err-tell_neighbour_or_handle_stranger-clause-wants : goal.returns-in-Err-tell_neighbour_or_handle_stranger-clause-wants
 returns-in-Err-tell_neighbour_or_handle_stranger-clause-wants g c = λ is.
@@ -47,15 +52,18 @@ returns-in-Ok-tell_neighbour_or_handle_stranger-clause-before g c =
     let ps = c.args.neighbours.now in
     let looked = held_looked policy ps c.args.event c.in-Ok.who _
     c.neighbours_are_apart_and_sound.ensures.apart c.in-Ok.ensures.concerned c.in-Ok.ensures.nobody
-    c.snapshot-before.ensures.held in
-    reowned_told policy c.args.event c.args.own.now ps c.tell_neighbour_or_handle_stranger.new.neighbours
-    c.tell_neighbour_or_handle_stranger.new.answer.neighbour c.tell_neighbour_or_handle_stranger.new.answer.actions.items c.snapshot-before.result.held
-    c.requires.calm looked c.in-Ok-tell_neighbour_or_handle_stranger.ensures.told
+    c.in-Some.ensures.held in
+    subst (IsReowned ps c.tell_neighbour_or_handle_stranger.new.neighbours c.tell_neighbour_or_handle_stranger.new.answer.neighbour)
+    (sym c.holding_one.ensures)
+    (reowned_told policy c.args.event c.args.own.now ps c.tell_neighbour_or_handle_stranger.new.neighbours
+    c.tell_neighbour_or_handle_stranger.new.answer.neighbour c.tell_neighbour_or_handle_stranger.new.answer.actions.items (one_held c.in-Some.on)
+    c.requires.calm looked c.in-Ok-tell_neighbour_or_handle_stranger.ensures.told)
 
 pub returns-in-Ok-tell_neighbour_or_handle_stranger-clause-rules : goal.returns-in-Ok-tell_neighbour_or_handle_stranger-clause-rules
 returns-in-Ok-tell_neighbour_or_handle_stranger-clause-rules g c =
-    done_goes (g.S.Strangers.policy c.args.strangers.now) c.args.neighbours.now c.args.event c.snapshot-before.result.held
-    _ c.tell_neighbour_or_handle_stranger.result c.in-Ok-tell_neighbour_or_handle_stranger.is
+    done_goes (g.S.Strangers.policy c.args.strangers.now) c.args.neighbours.now c.args.event
+    (record { before = c.holding_one.result; open_as_before = c.open_as_before.result }) _ c.tell_neighbour_or_handle_stranger.result
+    c.in-Ok-tell_neighbour_or_handle_stranger.is
     (λ f wrong. not_done c.in-Ok.who f c.concerned_neighbour.result c.in-Ok.is (c.concerned_neighbour.ensures.misdirected f wrong))
     c.tell_neighbour_or_handle_stranger.ensures.rules
 
@@ -65,3 +73,61 @@ returns-in-Err-tell_neighbour_or_handle_stranger-clause-rules g c =
     c.in-Err-tell_neighbour_or_handle_stranger.fault c.tell_neighbour_or_handle_stranger.result c.in-Err-tell_neighbour_or_handle_stranger.is
     (λ f wrong. not_done c.in-Ok.who f c.concerned_neighbour.result c.in-Ok.is (c.concerned_neighbour.ensures.misdirected f wrong))
     c.tell_neighbour_or_handle_stranger.ensures.rules
+
+pub returns-in-Ok-tell_neighbour_or_handle_stranger-2-clause-met : goal.returns-in-Ok-tell_neighbour_or_handle_stranger-2-clause-met
+returns-in-Ok-tell_neighbour_or_handle_stranger-2-clause-met g c =
+    let policy = g.S.Strangers.policy c.args.strangers.now in
+    let ps = c.args.neighbours.now in
+    let looked = state_looked policy ps c.args.event c.in-Ok.who _
+    c.neighbours_are_apart_and_sound.ensures.apart c.in-Ok.ensures.concerned c.in-Ok.ensures.nobody
+    c.snapshot-before.ensures.state in
+    meets_after policy c.args.event c.args.own.now ps c.tell_neighbour_or_handle_stranger-2.new.neighbours
+    c.tell_neighbour_or_handle_stranger-2.new.answer.neighbour c.tell_neighbour_or_handle_stranger-2.new.answer.actions.items (known_of c.args.known.now)
+    (known_of c.meet_if_opened_by_event.new.known) c.snapshot-before.result.state c.requires.calm looked c.requires.places
+    c.in-Ok-tell_neighbour_or_handle_stranger-2.ensures.told c.meet_if_opened_by_event.ensures.met c.meet_if_opened_by_event.ensures.unmet
+
+pub returns-in-Ok-tell_neighbour_or_handle_stranger-2-clause-places : goal.returns-in-Ok-tell_neighbour_or_handle_stranger-2-clause-places
+returns-in-Ok-tell_neighbour_or_handle_stranger-2-clause-places g c =
+    let policy = g.S.Strangers.policy c.args.strangers.now in
+    let ps = c.args.neighbours.now in
+    let looked = state_looked policy ps c.args.event c.in-Ok.who _
+    c.neighbours_are_apart_and_sound.ensures.apart c.in-Ok.ensures.concerned c.in-Ok.ensures.nobody
+    c.snapshot-before.ensures.state in
+    known_told known_after policy c.args.event c.args.own.now ps c.tell_neighbour_or_handle_stranger-2.new.neighbours
+    c.tell_neighbour_or_handle_stranger-2.new.answer.neighbour c.tell_neighbour_or_handle_stranger-2.new.answer.actions.items (known_of c.args.known.now)
+    (known_of c.meet_if_opened_by_event.new.known) c.requires.calm c.requires.places c.in-Ok-tell_neighbour_or_handle_stranger-2.ensures.told
+    (meets_after policy c.args.event c.args.own.now ps c.tell_neighbour_or_handle_stranger-2.new.neighbours
+    c.tell_neighbour_or_handle_stranger-2.new.answer.neighbour c.tell_neighbour_or_handle_stranger-2.new.answer.actions.items (known_of c.args.known.now)
+    (known_of c.meet_if_opened_by_event.new.known) c.snapshot-before.result.state c.requires.calm looked c.requires.places
+    c.in-Ok-tell_neighbour_or_handle_stranger-2.ensures.told c.meet_if_opened_by_event.ensures.met c.meet_if_opened_by_event.ensures.unmet)
+
+pub returns-in-Err-tell_neighbour_or_handle_stranger-2-clause-wants : goal.returns-in-Err-tell_neighbour_or_handle_stranger-2-clause-wants
+returns-in-Err-tell_neighbour_or_handle_stranger-2-clause-wants g c = λ is.
+    event_wants c.event_refusals_go_by_rule.ensures (g.S.Strangers.policy c.args.strangers.now) c.args.neighbours.now
+    c.args.event c.in-Err-tell_neighbour_or_handle_stranger-2.fault c.neighbours_are_apart_and_sound.ensures.kept c.requires.calm
+    (same_fault c.in-Err-tell_neighbour_or_handle_stranger-2.fault _ _ refl is) c.in-Err-tell_neighbour_or_handle_stranger-2.ensures.because
+
+pub returns-in-Ok-tell_neighbour_or_handle_stranger-2-clause-before : goal.returns-in-Ok-tell_neighbour_or_handle_stranger-2-clause-before
+returns-in-Ok-tell_neighbour_or_handle_stranger-2-clause-before g c =
+    let policy = g.S.Strangers.policy c.args.strangers.now in
+    let ps = c.args.neighbours.now in
+    let looked = held_looked policy ps c.args.event c.in-Ok.who _
+    c.neighbours_are_apart_and_sound.ensures.apart c.in-Ok.ensures.concerned c.in-Ok.ensures.nobody
+    c.snapshot-before.ensures.held in
+    reowned_told policy c.args.event c.args.own.now ps c.tell_neighbour_or_handle_stranger-2.new.neighbours
+    c.tell_neighbour_or_handle_stranger-2.new.answer.neighbour c.tell_neighbour_or_handle_stranger-2.new.answer.actions.items c.snapshot-before.result.held
+    c.requires.calm looked c.in-Ok-tell_neighbour_or_handle_stranger-2.ensures.told
+
+pub returns-in-Ok-tell_neighbour_or_handle_stranger-2-clause-rules : goal.returns-in-Ok-tell_neighbour_or_handle_stranger-2-clause-rules
+returns-in-Ok-tell_neighbour_or_handle_stranger-2-clause-rules g c =
+    done_goes (g.S.Strangers.policy c.args.strangers.now) c.args.neighbours.now c.args.event
+    (record { before = c.snapshot-before.result.held; open_as_before = None }) _ c.tell_neighbour_or_handle_stranger-2.result c.in-Ok-tell_neighbour_or_handle_stranger-2.is
+    (λ f wrong. not_done c.in-Ok.who f c.concerned_neighbour.result c.in-Ok.is (c.concerned_neighbour.ensures.misdirected f wrong))
+    c.tell_neighbour_or_handle_stranger-2.ensures.rules
+
+pub returns-in-Err-tell_neighbour_or_handle_stranger-2-clause-rules : goal.returns-in-Err-tell_neighbour_or_handle_stranger-2-clause-rules
+returns-in-Err-tell_neighbour_or_handle_stranger-2-clause-rules g c =
+    failed_goes _ (g.S.Strangers.policy c.args.strangers.now) c.args.neighbours.now c.args.event
+    c.in-Err-tell_neighbour_or_handle_stranger-2.fault c.tell_neighbour_or_handle_stranger-2.result c.in-Err-tell_neighbour_or_handle_stranger-2.is
+    (λ f wrong. not_done c.in-Ok.who f c.concerned_neighbour.result c.in-Ok.is (c.concerned_neighbour.ensures.misdirected f wrong))
+    c.tell_neighbour_or_handle_stranger-2.ensures.rules
