@@ -65,6 +65,7 @@ impl Core {
     }
 
     /// The connection that this peer opened, where it holds one.
+    #[inline(always)]
     pub fn initiated(&self) -> Option<Conn>
         ensures { result ≡ held_as Initiated self.now.held }
     {
@@ -81,6 +82,7 @@ impl Core {
     }
 
     /// The connection that the other side opened, where it holds one.
+    #[inline(always)]
     pub fn accepted(&self) -> Option<Conn>
         ensures { result ≡ held_as Accepted self.now.held }
     {
