@@ -23,3 +23,4 @@ pub mod NodeHearing
 pub mod NodeStreams
 pub mod NodeEnding
 pub mod NodeSteps
+pub mod NodeFrames

@@ -4,6 +4,7 @@ ghost use Rattle.dm_node.specs.NodeHistory.{EachNeighbourHasItsHistory};
 ghost use Rattle.dm_node.specs.OneConcerned.{OneIsConcerned};
 ghost use Rattle.dm_node.specs.NodeEnding.{NodeCloseIsLast, NodeGoneIsSilent, NodeGoneTellsNothing};
 ghost use Rattle.dm_node.specs.NodeEnding.{NodeGoneKeepsNothing};
+ghost use Rattle.dm_node.specs.NodeFrames.{StreamsAreToldByFrames};
 ghost use Rattle.dm_node.specs.NodeHearing.{NodeHeardAlike, NodeHeardOut};
 ghost use Rattle.dm_node.specs.NodeHeld.{AllHeldAreThere};
 ghost use Rattle.dm_node.specs.NodeLaws.{AreSoundNeighbours, EventLeavesOthers, NextLeavesOthers};
@@ -102,6 +103,16 @@ pub fn heard_pieces_are_told_as_kept_ones()
 /// Whatever cuts a stream, telling the pieces is a telling of the whole, whatever the policy.
 pub fn telling_pieces_tells_the_whole()
     ensures { NodeCutsAlike }
+{
+    one_front_frame_or_lasting_fault();
+}
+
+/// What is told of a stream until nothing is left is its frames and its fault, whatever the policy: in order, each by
+/// one turn as it stands, told to the neighbours as the turn before left them; and behind a turn that closes the
+/// connection nothing. So it is on a connection on which nothing is kept and which takes messages as long as behind the
+/// capabilities exchange: on each, where a node has one maximum for both.
+pub fn frames_of_streams_are_told_in_order()
+    ensures { StreamsAreToldByFrames }
 {
     one_front_frame_or_lasting_fault();
 }
