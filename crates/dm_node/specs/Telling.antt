@@ -80,6 +80,11 @@ IsFirstFor policy ps s i = IsCallOf ps s i ⊎ (((j : ℕ) → IsCallOf ps s j �
 abbrev pub IsAddressed : Policy → List (Option Peer) → Conn → List ℕ → ℕ → Type 0
 IsAddressed policy ps c s i = (holds_at ps c i ≡ true) ⊎ (IsFree ps c × IsFirstFor policy ps s i)
 
+-- the neighbour that holds a connection, where one does
+pub record IsHolder (ps : List (Option Peer)) (c : Conn) (holder : Option ℕ) : Type 0 where
+  pub found : IfSome holder (λ i. holds_at ps c i ≡ true)
+  pub none : IfNone holder ((j : ℕ) → holds_at ps c j ≡ false)
+
 -- the event concerns the neighbour of this number: it names it, or a connection that this one holds, or it is a first
 -- message of its host, or one of a stranger to the porter
 abbrev pub Concerns : Policy → List (Option Peer) → NodeEvent → ℕ → Type 0

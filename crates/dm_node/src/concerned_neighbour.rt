@@ -4,12 +4,13 @@ ghost use Rattle.dm_node.specs.Holding.{peer_at, holds_at};
 ghost use Rattle.dm_node.specs.Owning.{AreOwned};
 ghost use Rattle.dm_slots.specs.Held.{owners_of};
 ghost use Rattle.dm_node.specs.Telling.{told_of, IsCallOf, IsPorter, IsFirstFor, IsAddressed};
-ghost use Rattle.dm_node.specs.Telling.{Concerns, IsAlone, IsMisdirected, StartsFree};
+ghost use Rattle.dm_node.specs.Telling.{Concerns, IsAlone, IsHolder, IsMisdirected, StartsFree};
+ghost use Rattle.dm_peer.specs.Events.{Arrived};
 ghost use Rattle.dm_node.specs.declared.fault.OrderFault.{OrderFault};
 ghost use Rattle.dm_node.specs.declared.fault.OrderFault.TheVariants.{NoNeighbour};
 
 use crate::calling::read_cer_header_and_host;
-use crate::neighbours::Neighbours;
+use crate::neighbours::{Neighbours, neighbours_are_apart_and_sound};
 use crate::{NodeEvent, OrderFault, Strangers};
 use dm_peer::Conn;
 use dm_slots::Slots;
@@ -72,22 +73,24 @@ fn holding_neighbour(neighbours: &Neighbours, slots: &Slots, conn: Conn) -> Opti
     slots.owner(conn)
 }
 
-/// The neighbour that octets on a connection are for; None where they are for none.
+/// The neighbour that octets are for on a connection that `holder` holds, or nobody; None where they are for none.
 #[inline(always)]
-fn neighbour_for_arrived_octets<S: Strangers>(
+pub(crate) fn neighbour_for_arrived_octets<S: Strangers>(
     neighbours: &Neighbours,
-    slots: &Slots,
     strangers: &S,
+    holder: Option<usize>,
     conn: Conn,
     octets: &[u8],
 ) -> Option<usize>
-    requires owned { AreOwned (owners_of slots.now) neighbours.now }
+    requires { IsHolder neighbours.now conn holder }
     ensures there { IfSome result (λ i. IsSome (peer_at neighbours.now i)) }
     ensures found { IfSome result (IsAddressed (S.policy strangers.now) neighbours.now conn octets.now) }
     ensures none { IfNone result ((i : ℕ)
         → IsAddressed (S.policy strangers.now) neighbours.now conn octets.now i → ⊥) }
+    ensures alone { IfSome result (IsAlone neighbours.now (Arrived conn octets.now)) }
 {
-    match holding_neighbour(neighbours, slots, conn) {
+    neighbours_are_apart_and_sound(neighbours);
+    match holder {
         Some(index) => Some(index),
         None => calling_neighbour_or_porter(neighbours, strangers, octets),
     }
@@ -132,8 +135,9 @@ pub(crate) fn concerned_neighbour<S: Strangers>(
         NodeEvent::Ack(conn) | NodeEvent::Nack(conn) | NodeEvent::Gone(conn) => {
             Ok(holding_neighbour(neighbours, slots, conn))
         }
-        NodeEvent::Arrived(conn, octets) => Ok(neighbour_for_arrived_octets(
-            neighbours, slots, strangers, conn, octets,
-        )),
+        NodeEvent::Arrived(conn, octets) => {
+            let holder = holding_neighbour(neighbours, slots, conn);
+            Ok(neighbour_for_arrived_octets(neighbours, strangers, holder, conn, octets))
+        }
     }
 }

@@ -59,6 +59,7 @@ impl Node {
         feed_front_takes_whole_message_len();
         answer.clear();
         self.look_first_at(conn);
+        let holder = self.holder(conn);
         let Some(size) = self.intakes.whole_message_len(conn, piece) else {
             return self.keep_front_and_tell(alloc, strangers, conn, piece, answer);
         };
@@ -67,8 +68,8 @@ impl Node {
             &self.own,
             &mut self.neighbours,
             &mut self.known,
-            &self.intakes,
             strangers,
+            holder,
             conn,
             &piece[..size],
             answer,

@@ -315,6 +315,7 @@ impl Node {
     {
         connections_stay_until_closed();
         answer.clear();
+        let holder = self.holder(conn);
         match self.intakes.front(conn) {
             Front::Nothing => Ok(()),
             Front::Message(message) => match tell_message(
@@ -322,8 +323,8 @@ impl Node {
                 &self.own,
                 &mut self.neighbours,
                 &mut self.known,
-                &self.intakes,
                 strangers,
+                holder,
                 conn,
                 message,
                 answer,

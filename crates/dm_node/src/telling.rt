@@ -7,7 +7,7 @@ ghost use Rattle.dm_node.specs.NodeKnown.{known_of, AreKnown, MeetsAny, IsCopied
 ghost use Rattle.dm_node.specs.NodeStates.{TakesMemoryAt, concerned_in};
 ghost use Rattle.dm_node.specs.Owning.{AreOwned, IsOpenAsBefore, IsReowned};
 ghost use Rattle.dm_node.specs.Strangers.{NodeMoves, NodeIsTold};
-ghost use Rattle.dm_node.specs.Telling.{IsFree, IsStrangeCer, IsWhose, IsRefusedHere, StartsFree, told_of};
+ghost use Rattle.dm_node.specs.Telling.{IsFree, IsHolder, IsStrangeCer, IsWhose, IsRefusedHere, StartsFree, told_of};
 ghost use Rattle.dm_node.specs.declared.fault.OrderFault.TheVariants as faults;
 ghost use Rattle.dm_peer.specs.declared.fault.PeerFault.TheVariants as peer_faults;
 ghost use Rattle.dm_peer.specs.Events.{Arrived};
@@ -18,7 +18,7 @@ ghost use Rattle.dm_slots.specs.Intakes.{Intakes as AllIntakes, actions_close};
 ghost use Rattle.dm_slots.specs.Naming.{NamesThere};
 
 use crate::acquaintances::Acquaintances;
-use crate::concerned_neighbour::concerned_neighbour;
+use crate::concerned_neighbour::{concerned_neighbour, neighbour_for_arrived_octets};
 use crate::meeting::{
     copy_and_reserve_if_exchange, meet_if_opened_by_event, meet_or_set_waiting_cer,
 };
@@ -108,24 +108,24 @@ fn tell_neighbour_or_handle_stranger<S: Strangers>(
     }
 }
 
-/// Tells the message that came on the connection to the neighbour that it concerns, or handles it as a stranger's, puts
-/// what it comes to into `answer`, whose actions are none before, and keeps whom it met. Returns what is settled
-/// behind it. The CER or CEA is copied first, so that behind an `Err` all is as it was.
+/// Tells the message that came on the connection, which `holder` holds, or nobody, to the neighbour that it concerns,
+/// or handles it as a stranger's, puts what it comes to into `answer`, whose actions are none before, and keeps whom it
+/// met. Returns what is settled behind it. The CER or CEA is copied first, so that behind an `Err` all is as it was.
 #[inline(always)]
 pub(crate) fn tell_message<S: Strangers>(
     alloc: Global,
     own: &Node,
     neighbours: &mut Neighbours,
     known: &mut Acquaintances,
-    slots: &Slots,
     strangers: &S,
+    holder: Option<usize>,
     conn: Conn,
     octets: &[u8],
     answer: &mut Answer,
 ) -> Result<ToSettle, AllocError>
     requires none { answer.old.actions.items ≡ [] }
     requires places { AreKnown neighbours.old (known_of known.old) }
-    requires owned { AreOwned (owners_of slots.now) neighbours.old }
+    requires holder { IsHolder neighbours.old conn holder }
     ensures told { OnOk result (NodeMoves (S.policy strangers.now) conn octets.now own.now
         neighbours.old answer.new.neighbour answer.new.actions.items neighbours.new) }
     ensures closed { OnOk result ((c : Conn) → actions_close answer.new.actions.items c.0 ≡ true
@@ -147,10 +147,7 @@ pub(crate) fn tell_message<S: Strangers>(
 {
     neighbours_are_apart_and_sound(neighbours);
     let event = NodeEvent::Arrived(conn, octets);
-    let who = match concerned_neighbour(neighbours, slots, strangers, event) {
-        Ok(who) => who,
-        Err(_) => unreachable!(),
-    };
+    let who = neighbour_for_arrived_octets(neighbours, strangers, holder, conn, octets);
     if let Some(on) = neighbours.open_connection(who) {
         return match tell_neighbour_or_handle_stranger(
             alloc, own, neighbours, strangers, who, event, answer,

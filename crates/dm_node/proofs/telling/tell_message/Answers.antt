@@ -10,33 +10,104 @@ use Rattle.dm_node.specs.Owning.{one_held, IsReowned}
 use Rattle.dm_node.proofs.Reowned.{held_looked, reowned_moved}
 use Rattle.dm_node.proofs.telling.tell_message.Goals as goal
 
+pub returns-in-Ok-clause-met : goal.returns-in-Ok-clause-met
+returns-in-Ok-clause-met g c =
+    let policy = g.S.Strangers.policy c.args.strangers.now in
+    let ps = c.args.neighbours.now in
+    let looked = state_looked policy ps (event.Arrived c.args.conn c.args.octets) c.neighbour_for_arrived_octets-who.result _
+    c.neighbours_are_apart_and_sound.ensures.apart c.neighbour_for_arrived_octets-who.ensures.found c.neighbour_for_arrived_octets-who.ensures.none
+    refl in
+    open_meets policy c.args.conn c.args.octets.now c.args.own.now ps c.tell_neighbour_or_handle_stranger.new.neighbours
+    c.tell_neighbour_or_handle_stranger.new.answer.neighbour c.tell_neighbour_or_handle_stranger.new.answer.actions.items (known_of c.args.known.now)
+    (peer_state (concerned_in ps c.neighbour_for_arrived_octets-who.result)) c.requires.places looked c.in-Ok.ensures.told
+    c.in-Some.ensures.state
+
+pub returns-in-Ok-clause-places : goal.returns-in-Ok-clause-places
+returns-in-Ok-clause-places g c =
+    let policy = g.S.Strangers.policy c.args.strangers.now in
+    let ps = c.args.neighbours.now in
+    let looked = state_looked policy ps (event.Arrived c.args.conn c.args.octets) c.neighbour_for_arrived_octets-who.result _
+    c.neighbours_are_apart_and_sound.ensures.apart c.neighbour_for_arrived_octets-who.ensures.found c.neighbour_for_arrived_octets-who.ensures.none
+    refl in
+    known_moved (λ state q a. known_at c.args.conn state q c.args.octets.now a) policy c.args.conn c.args.octets.now
+    c.args.own.now ps c.tell_neighbour_or_handle_stranger.new.neighbours c.tell_neighbour_or_handle_stranger.new.answer.neighbour
+    c.tell_neighbour_or_handle_stranger.new.answer.actions.items (known_of c.args.known.now) (known_of c.args.known.now) c.requires.places
+    c.in-Ok.ensures.told
+    (open_meets policy c.args.conn c.args.octets.now c.args.own.now ps c.tell_neighbour_or_handle_stranger.new.neighbours
+    c.tell_neighbour_or_handle_stranger.new.answer.neighbour c.tell_neighbour_or_handle_stranger.new.answer.actions.items (known_of c.args.known.now)
+    (peer_state (concerned_in ps c.neighbour_for_arrived_octets-who.result)) c.requires.places looked c.in-Ok.ensures.told
+    c.in-Some.ensures.state)
+
+pub returns-in-Err-clause-memory : goal.returns-in-Err-clause-memory
+returns-in-Err-clause-memory g c =
+    inl (c.in-Err.ensures.memory c.args.conn c.args.octets.now refl)
+
+pub returns-in-Ok-clause-before : goal.returns-in-Ok-clause-before
+returns-in-Ok-clause-before g c =
+    let policy = g.S.Strangers.policy c.args.strangers.now in
+    let ps = c.args.neighbours.now in
+    let looked = held_looked policy ps (event.Arrived c.args.conn c.args.octets) c.neighbour_for_arrived_octets-who.result _
+    c.neighbours_are_apart_and_sound.ensures.apart c.neighbour_for_arrived_octets-who.ensures.found c.neighbour_for_arrived_octets-who.ensures.none
+    c.in-Some.ensures.held in
+    subst (IsReowned ps c.tell_neighbour_or_handle_stranger.new.neighbours c.tell_neighbour_or_handle_stranger.new.answer.neighbour)
+    (sym c.holding_one.ensures)
+    (reowned_moved policy c.args.conn c.args.octets.now c.args.own.now ps
+    c.tell_neighbour_or_handle_stranger.new.neighbours c.tell_neighbour_or_handle_stranger.new.answer.neighbour
+    c.tell_neighbour_or_handle_stranger.new.answer.actions.items (one_held c.in-Some.on) looked c.in-Ok.ensures.told)
+
 pub returns-in-Ok-tell_neighbour_or_handle_stranger-clause-met : goal.returns-in-Ok-tell_neighbour_or_handle_stranger-clause-met
 returns-in-Ok-tell_neighbour_or_handle_stranger-clause-met g c =
     let policy = g.S.Strangers.policy c.args.strangers.now in
     let ps = c.args.neighbours.now in
-    let looked = state_looked policy ps (event.Arrived c.args.conn c.args.octets) c.in-Ok.who _
-    c.neighbours_are_apart_and_sound.ensures.apart c.in-Ok.ensures.concerned c.in-Ok.ensures.nobody
-    refl in
-    open_meets policy c.args.conn c.args.octets.now c.args.own.now ps c.tell_neighbour_or_handle_stranger.new.neighbours
-    c.tell_neighbour_or_handle_stranger.new.answer.neighbour c.tell_neighbour_or_handle_stranger.new.answer.actions.items (known_of c.args.known.now)
-    (peer_state (concerned_in ps c.in-Ok.who)) c.requires.places looked c.in-Ok-tell_neighbour_or_handle_stranger.ensures.told
-    c.in-Some.ensures.state
+    let looked = state_looked policy ps (event.Arrived c.args.conn c.args.octets) c.neighbour_for_arrived_octets-who.result _
+    c.neighbours_are_apart_and_sound.ensures.apart c.neighbour_for_arrived_octets-who.ensures.found c.neighbour_for_arrived_octets-who.ensures.none
+    c.snapshot-before.ensures.state in
+    meets policy c.args.conn c.args.octets.now c.args.own.now ps c.tell_neighbour_or_handle_stranger-2.new.neighbours
+    c.tell_neighbour_or_handle_stranger-2.new.answer.neighbour c.tell_neighbour_or_handle_stranger-2.new.answer.actions.items (known_of c.args.known.now)
+    (known_of c.copy_and_reserve_if_exchange.new.known) (known_of c.meet_or_set_waiting_cer.new.known) c.snapshot-before.result.state c.in-Ok-copy_and_reserve_if_exchange.exchange looked
+    c.in-Ok-copy_and_reserve_if_exchange.ensures.copied c.copy_and_reserve_if_exchange.ensures.same c.in-Ok-tell_neighbour_or_handle_stranger.ensures.told c.meet_or_set_waiting_cer.ensures.met
+    c.meet_or_set_waiting_cer.ensures.unmet
 
 pub returns-in-Ok-tell_neighbour_or_handle_stranger-clause-places : goal.returns-in-Ok-tell_neighbour_or_handle_stranger-clause-places
 returns-in-Ok-tell_neighbour_or_handle_stranger-clause-places g c =
     let policy = g.S.Strangers.policy c.args.strangers.now in
     let ps = c.args.neighbours.now in
-    let looked = state_looked policy ps (event.Arrived c.args.conn c.args.octets) c.in-Ok.who _
-    c.neighbours_are_apart_and_sound.ensures.apart c.in-Ok.ensures.concerned c.in-Ok.ensures.nobody
-    refl in
+    let looked = state_looked policy ps (event.Arrived c.args.conn c.args.octets) c.neighbour_for_arrived_octets-who.result _
+    c.neighbours_are_apart_and_sound.ensures.apart c.neighbour_for_arrived_octets-who.ensures.found c.neighbour_for_arrived_octets-who.ensures.none
+    c.snapshot-before.ensures.state in
     known_moved (λ state q a. known_at c.args.conn state q c.args.octets.now a) policy c.args.conn c.args.octets.now
-    c.args.own.now ps c.tell_neighbour_or_handle_stranger.new.neighbours c.tell_neighbour_or_handle_stranger.new.answer.neighbour
-    c.tell_neighbour_or_handle_stranger.new.answer.actions.items (known_of c.args.known.now) (known_of c.args.known.now) c.requires.places
+    c.args.own.now ps c.tell_neighbour_or_handle_stranger-2.new.neighbours c.tell_neighbour_or_handle_stranger-2.new.answer.neighbour
+    c.tell_neighbour_or_handle_stranger-2.new.answer.actions.items (known_of c.args.known.now) (known_of c.meet_or_set_waiting_cer.new.known) c.requires.places
     c.in-Ok-tell_neighbour_or_handle_stranger.ensures.told
-    (open_meets policy c.args.conn c.args.octets.now c.args.own.now ps c.tell_neighbour_or_handle_stranger.new.neighbours
-    c.tell_neighbour_or_handle_stranger.new.answer.neighbour c.tell_neighbour_or_handle_stranger.new.answer.actions.items (known_of c.args.known.now)
-    (peer_state (concerned_in ps c.in-Ok.who)) c.requires.places looked c.in-Ok-tell_neighbour_or_handle_stranger.ensures.told
-    c.in-Some.ensures.state)
+    (meets policy c.args.conn c.args.octets.now c.args.own.now ps c.tell_neighbour_or_handle_stranger-2.new.neighbours
+    c.tell_neighbour_or_handle_stranger-2.new.answer.neighbour c.tell_neighbour_or_handle_stranger-2.new.answer.actions.items (known_of c.args.known.now)
+    (known_of c.copy_and_reserve_if_exchange.new.known) (known_of c.meet_or_set_waiting_cer.new.known) c.snapshot-before.result.state c.in-Ok-copy_and_reserve_if_exchange.exchange looked
+    c.in-Ok-copy_and_reserve_if_exchange.ensures.copied c.copy_and_reserve_if_exchange.ensures.same c.in-Ok-tell_neighbour_or_handle_stranger.ensures.told c.meet_or_set_waiting_cer.ensures.met
+    c.meet_or_set_waiting_cer.ensures.unmet)
+
+pub meet_or_set_waiting_cer-requires : goal.meet_or_set_waiting_cer-requires
+meet_or_set_waiting_cer-requires g c = record {
+  room = λ i is none.
+      let policy = g.S.Strangers.policy c.args.strangers.now in
+      let ps = c.args.neighbours.now in
+      let looked = state_looked policy ps (event.Arrived c.args.conn c.args.octets) c.neighbour_for_arrived_octets-who.result _
+      c.neighbours_are_apart_and_sound.ensures.apart c.neighbour_for_arrived_octets-who.ensures.found c.neighbour_for_arrived_octets-who.ensures.none
+      c.snapshot-before.ensures.state in
+      c.in-Ok-copy_and_reserve_if_exchange.ensures.room
+      (room_for policy c.args.conn c.args.octets.now c.args.own.now ps c.tell_neighbour_or_handle_stranger-2.new.neighbours
+      c.tell_neighbour_or_handle_stranger-2.new.answer.neighbour c.tell_neighbour_or_handle_stranger-2.new.answer.actions.items (known_of c.args.known.now)
+      c.snapshot-before.result.state i c.requires.places looked c.in-Ok-tell_neighbour_or_handle_stranger.ensures.told is
+      (ap (λ l. nat_lt i (length l)) (sym c.copy_and_reserve_if_exchange.ensures.same) ∙ none));
+}
+
+pub returns-in-Err-copy_and_reserve_if_exchange-clause-memory : goal.returns-in-Err-copy_and_reserve_if_exchange-clause-memory
+returns-in-Err-copy_and_reserve_if_exchange-clause-memory g c =
+    let policy = g.S.Strangers.policy c.args.strangers.now in
+    let ps = c.args.neighbours.now in
+    let looked = state_looked policy ps (event.Arrived c.args.conn c.args.octets) c.neighbour_for_arrived_octets-who.result _
+    c.neighbours_are_apart_and_sound.ensures.apart c.neighbour_for_arrived_octets-who.ensures.found c.neighbour_for_arrived_octets-who.ensures.none
+    c.snapshot-before.ensures.state in
+    inr (is_copied policy c.args.conn c.args.octets.now ps c.snapshot-before.result.state looked c.in-Err-copy_and_reserve_if_exchange.ensures.memory)
 
 pub returns-in-Err-tell_neighbour_or_handle_stranger-clause-memory : goal.returns-in-Err-tell_neighbour_or_handle_stranger-clause-memory
 returns-in-Err-tell_neighbour_or_handle_stranger-clause-memory g c =
@@ -46,80 +117,9 @@ pub returns-in-Ok-tell_neighbour_or_handle_stranger-clause-before : goal.returns
 returns-in-Ok-tell_neighbour_or_handle_stranger-clause-before g c =
     let policy = g.S.Strangers.policy c.args.strangers.now in
     let ps = c.args.neighbours.now in
-    let looked = held_looked policy ps (event.Arrived c.args.conn c.args.octets) c.in-Ok.who _
-    c.neighbours_are_apart_and_sound.ensures.apart c.in-Ok.ensures.concerned c.in-Ok.ensures.nobody
-    c.in-Some.ensures.held in
-    subst (IsReowned ps c.tell_neighbour_or_handle_stranger.new.neighbours c.tell_neighbour_or_handle_stranger.new.answer.neighbour)
-    (sym c.holding_one.ensures)
-    (reowned_moved policy c.args.conn c.args.octets.now c.args.own.now ps
-    c.tell_neighbour_or_handle_stranger.new.neighbours c.tell_neighbour_or_handle_stranger.new.answer.neighbour
-    c.tell_neighbour_or_handle_stranger.new.answer.actions.items (one_held c.in-Some.on) looked c.in-Ok-tell_neighbour_or_handle_stranger.ensures.told)
-
-pub returns-in-Ok-tell_neighbour_or_handle_stranger-2-clause-met : goal.returns-in-Ok-tell_neighbour_or_handle_stranger-2-clause-met
-returns-in-Ok-tell_neighbour_or_handle_stranger-2-clause-met g c =
-    let policy = g.S.Strangers.policy c.args.strangers.now in
-    let ps = c.args.neighbours.now in
-    let looked = state_looked policy ps (event.Arrived c.args.conn c.args.octets) c.in-Ok.who _
-    c.neighbours_are_apart_and_sound.ensures.apart c.in-Ok.ensures.concerned c.in-Ok.ensures.nobody
-    c.snapshot-before.ensures.state in
-    meets policy c.args.conn c.args.octets.now c.args.own.now ps c.tell_neighbour_or_handle_stranger-2.new.neighbours
-    c.tell_neighbour_or_handle_stranger-2.new.answer.neighbour c.tell_neighbour_or_handle_stranger-2.new.answer.actions.items (known_of c.args.known.now)
-    (known_of c.copy_and_reserve_if_exchange.new.known) (known_of c.meet_or_set_waiting_cer.new.known) c.snapshot-before.result.state c.in-Ok-copy_and_reserve_if_exchange.exchange looked
-    c.in-Ok-copy_and_reserve_if_exchange.ensures.copied c.copy_and_reserve_if_exchange.ensures.same c.in-Ok-tell_neighbour_or_handle_stranger-2.ensures.told c.meet_or_set_waiting_cer.ensures.met
-    c.meet_or_set_waiting_cer.ensures.unmet
-
-pub returns-in-Ok-tell_neighbour_or_handle_stranger-2-clause-places : goal.returns-in-Ok-tell_neighbour_or_handle_stranger-2-clause-places
-returns-in-Ok-tell_neighbour_or_handle_stranger-2-clause-places g c =
-    let policy = g.S.Strangers.policy c.args.strangers.now in
-    let ps = c.args.neighbours.now in
-    let looked = state_looked policy ps (event.Arrived c.args.conn c.args.octets) c.in-Ok.who _
-    c.neighbours_are_apart_and_sound.ensures.apart c.in-Ok.ensures.concerned c.in-Ok.ensures.nobody
-    c.snapshot-before.ensures.state in
-    known_moved (λ state q a. known_at c.args.conn state q c.args.octets.now a) policy c.args.conn c.args.octets.now
-    c.args.own.now ps c.tell_neighbour_or_handle_stranger-2.new.neighbours c.tell_neighbour_or_handle_stranger-2.new.answer.neighbour
-    c.tell_neighbour_or_handle_stranger-2.new.answer.actions.items (known_of c.args.known.now) (known_of c.meet_or_set_waiting_cer.new.known) c.requires.places
-    c.in-Ok-tell_neighbour_or_handle_stranger-2.ensures.told
-    (meets policy c.args.conn c.args.octets.now c.args.own.now ps c.tell_neighbour_or_handle_stranger-2.new.neighbours
-    c.tell_neighbour_or_handle_stranger-2.new.answer.neighbour c.tell_neighbour_or_handle_stranger-2.new.answer.actions.items (known_of c.args.known.now)
-    (known_of c.copy_and_reserve_if_exchange.new.known) (known_of c.meet_or_set_waiting_cer.new.known) c.snapshot-before.result.state c.in-Ok-copy_and_reserve_if_exchange.exchange looked
-    c.in-Ok-copy_and_reserve_if_exchange.ensures.copied c.copy_and_reserve_if_exchange.ensures.same c.in-Ok-tell_neighbour_or_handle_stranger-2.ensures.told c.meet_or_set_waiting_cer.ensures.met
-    c.meet_or_set_waiting_cer.ensures.unmet)
-
-pub meet_or_set_waiting_cer-requires : goal.meet_or_set_waiting_cer-requires
-meet_or_set_waiting_cer-requires g c = record {
-  room = λ i is none.
-      let policy = g.S.Strangers.policy c.args.strangers.now in
-      let ps = c.args.neighbours.now in
-      let looked = state_looked policy ps (event.Arrived c.args.conn c.args.octets) c.in-Ok.who _
-      c.neighbours_are_apart_and_sound.ensures.apart c.in-Ok.ensures.concerned c.in-Ok.ensures.nobody
-      c.snapshot-before.ensures.state in
-      c.in-Ok-copy_and_reserve_if_exchange.ensures.room
-      (room_for policy c.args.conn c.args.octets.now c.args.own.now ps c.tell_neighbour_or_handle_stranger-2.new.neighbours
-      c.tell_neighbour_or_handle_stranger-2.new.answer.neighbour c.tell_neighbour_or_handle_stranger-2.new.answer.actions.items (known_of c.args.known.now)
-      c.snapshot-before.result.state i c.requires.places looked c.in-Ok-tell_neighbour_or_handle_stranger-2.ensures.told is
-      (ap (λ l. nat_lt i (length l)) (sym c.copy_and_reserve_if_exchange.ensures.same) ∙ none));
-}
-
-pub returns-in-Err-copy_and_reserve_if_exchange-clause-memory : goal.returns-in-Err-copy_and_reserve_if_exchange-clause-memory
-returns-in-Err-copy_and_reserve_if_exchange-clause-memory g c =
-    let policy = g.S.Strangers.policy c.args.strangers.now in
-    let ps = c.args.neighbours.now in
-    let looked = state_looked policy ps (event.Arrived c.args.conn c.args.octets) c.in-Ok.who _
-    c.neighbours_are_apart_and_sound.ensures.apart c.in-Ok.ensures.concerned c.in-Ok.ensures.nobody
-    c.snapshot-before.ensures.state in
-    inr (is_copied policy c.args.conn c.args.octets.now ps c.snapshot-before.result.state looked c.in-Err-copy_and_reserve_if_exchange.ensures.memory)
-
-pub returns-in-Err-tell_neighbour_or_handle_stranger-2-clause-memory : goal.returns-in-Err-tell_neighbour_or_handle_stranger-2-clause-memory
-returns-in-Err-tell_neighbour_or_handle_stranger-2-clause-memory g c =
-    inl (c.in-Err-tell_neighbour_or_handle_stranger-2.ensures.memory c.args.conn c.args.octets.now refl)
-
-pub returns-in-Ok-tell_neighbour_or_handle_stranger-2-clause-before : goal.returns-in-Ok-tell_neighbour_or_handle_stranger-2-clause-before
-returns-in-Ok-tell_neighbour_or_handle_stranger-2-clause-before g c =
-    let policy = g.S.Strangers.policy c.args.strangers.now in
-    let ps = c.args.neighbours.now in
-    let looked = held_looked policy ps (event.Arrived c.args.conn c.args.octets) c.in-Ok.who _
-    c.neighbours_are_apart_and_sound.ensures.apart c.in-Ok.ensures.concerned c.in-Ok.ensures.nobody
+    let looked = held_looked policy ps (event.Arrived c.args.conn c.args.octets) c.neighbour_for_arrived_octets-who.result _
+    c.neighbours_are_apart_and_sound.ensures.apart c.neighbour_for_arrived_octets-who.ensures.found c.neighbour_for_arrived_octets-who.ensures.none
     c.snapshot-before.ensures.held in
     reowned_moved policy c.args.conn c.args.octets.now c.args.own.now ps
     c.tell_neighbour_or_handle_stranger-2.new.neighbours c.tell_neighbour_or_handle_stranger-2.new.answer.neighbour
-    c.tell_neighbour_or_handle_stranger-2.new.answer.actions.items c.snapshot-before.result.held looked c.in-Ok-tell_neighbour_or_handle_stranger-2.ensures.told
+    c.tell_neighbour_or_handle_stranger-2.new.answer.actions.items c.snapshot-before.result.held looked c.in-Ok-tell_neighbour_or_handle_stranger.ensures.told
