@@ -6,7 +6,7 @@ use Rattle.std.proofs.lemmas.Bool.{and_parts, eqb-true}
 use Rattle.dm_machine.specs.declared.connection.Conn.{Conn}
 use Rattle.dm_machine.specs.declared.outputs.Command.{Command}
 use Rattle.dm_machine.specs.declared.outputs.Command.TheVariants as command
-use Rattle.dm_machine.specs.Connection.{Hold, NotHeld, Pending, Made, OpenAsI, ClosingAsI, Taken, OpenAsR, ClosingAsR, hold_of, Concern, StartsIt, AcksIt, NacksIt, EndsIt, HeardOnIt, AsksStop, SaysTimeout, SaysTick, AsksSubmit, NamesAnother, if_named, concern_of, ConnOrder, Connects, SendsCer, SendsCea, SendsRefusal, SendsDwr, SendsDwa, SendsDpr, SendsDpa, SendsSubmit, Closes, if_ordered, with_order, orders_to, AtConnection}
+use Rattle.dm_machine.specs.Connection.{Hold, NotHeld, hold_of, Concern, StartsIt, AcksIt, NacksIt, EndsIt, HeardOnIt, if_named, concern_of, ConnOrder, Connects, SendsCer, SendsCea, SendsRefusal, SendsDwr, SendsDwa, SendsDpr, SendsDpa, SendsSubmit, Closes, if_ordered, with_order, orders_to, AtConnection}
 use Rattle.dm_machine.specs.Deeds.{Deed, ClosesOn, deed_of_command}
 use Rattle.dm_machine.specs.Node.{is_shaped}
 use Rattle.dm_machine.specs.Openings.{is_hold, is_order, has_order, is_left_unclosed, ClosesWhatItGivesUp}
@@ -15,7 +15,7 @@ use Rattle.dm_peer.specs.declared.actions.Action.TheVariants as action
 use Rattle.dm_peer.specs.declared.peer.Peer.{Peer}
 use Rattle.dm_peer.specs.Acts.{Moved, acts, input_of}
 use Rattle.dm_peer.specs.Configs.{wins}
-use Rattle.dm_peer.specs.Events.{PeerEvent, Start, Stop, Timeout, Tick, Ack, Nack, Arrived, Gone, Submit}
+use Rattle.dm_peer.specs.Events.{PeerEvent, Start, Ack, Nack, Arrived, Gone}
 use Rattle.dm_peer.specs.Holding.{is_held, holds, closes_conn}
 use Rattle.dm_peer.specs.Kept.{IsKept}
 use Rattle.dm_peer.specs.Said.{Heard}
@@ -32,17 +32,13 @@ closes_it c _ = false
 
 by_deeds : (c : Conn) (actions : List Action) → actions_close actions c.0 ≡ list_any (closes_it c) (map deed_of actions)
 by_deeds c [] = refl
-by_deeds c (action.Connect d ∷ actions) = by_deeds c actions
-by_deeds c (action.Send d s ∷ actions) = by_deeds c actions
 by_deeds c (action.Close d ∷ actions) = ap (λ b. (d.0 == c.0) || b) (by_deeds c actions)
-by_deeds c (action.Up s ∷ actions) = by_deeds c actions
+by_deeds c (a ∷ actions) = by_deeds c actions
 
 pub closes_as : (c : Conn) (actions : List Action) → actions_close actions c.0 ≡ list_any (closes_conn c) actions
 closes_as c [] = refl
-closes_as c (action.Connect d ∷ actions) = closes_as c actions
-closes_as c (action.Send d s ∷ actions) = closes_as c actions
 closes_as c (action.Close d ∷ actions) = ap (λ b. (d.0 == c.0) || b) (closes_as c actions)
-closes_as c (action.Up s ∷ actions) = closes_as c actions
+closes_as c (a ∷ actions) = closes_as c actions
 
 other_order : (b : Bool) (o : ConnOrder) (rest : List ConnOrder) → is_order Closes o ≡ false →
     has_order Closes (with_order (if_ordered b o) rest) ≡ has_order Closes rest
@@ -79,22 +75,8 @@ IsHeardOn _ = ⊥
 
 heard_or_held : (k : Concern) (h : Hold) → not (is_left_unclosed k h) ≡ true → (is_held h ≡ true) ⊎ IsHeardOn k
 heard_or_held (HeardOnIt w) h e = inr tt
-heard_or_held StartsIt NotHeld e = cc
-heard_or_held AcksIt NotHeld e = cc
-heard_or_held NacksIt NotHeld e = cc
-heard_or_held EndsIt NotHeld e = cc
-heard_or_held AsksStop NotHeld e = cc
-heard_or_held SaysTimeout NotHeld e = cc
-heard_or_held SaysTick NotHeld e = cc
-heard_or_held AsksSubmit NotHeld e = cc
-heard_or_held NamesAnother NotHeld e = cc
-heard_or_held k Pending e = inl refl
-heard_or_held k Made e = inl refl
-heard_or_held k OpenAsI e = inl refl
-heard_or_held k ClosingAsI e = inl refl
-heard_or_held k Taken e = inl refl
-heard_or_held k OpenAsR e = inl refl
-heard_or_held k ClosingAsR e = inl refl
+heard_or_held k NotHeld e = cc
+heard_or_held k h e = inl refl
 
 not_heard : (b : Bool) (k : Concern) → (IsHeardOn k → ⊥) → IsHeardOn (if_named b k) → ⊥
 not_heard true k un h = un h
@@ -111,20 +93,11 @@ came_on (Ack d) h c is = absurd (not_heard (d.0 == c.0) AcksIt (λ x. x) is)
 came_on (Nack d) h c is = absurd (not_heard (d.0 == c.0) NacksIt (λ x. x) is)
 came_on (Gone d) h c is = absurd (not_heard (d.0 == c.0) EndsIt (λ x. x) is)
 came_on (Arrived d s) h c is = same_conn d c s _ (d.0 == c.0) refl is
-came_on (Stop cause) h c is = absurd is
-came_on Timeout h c is = absurd is
-came_on Tick h c is = absurd is
-came_on (Submit s) h c is = absurd is
+came_on e h c is = absurd is
 
 not_held : (h : Hold) → is_hold NotHeld h ≡ true → is_held h ≡ false
 not_held NotHeld e = refl
-not_held Pending e = cc
-not_held Made e = cc
-not_held OpenAsI e = cc
-not_held ClosingAsI e = cc
-not_held Taken e = cc
-not_held OpenAsR e = cc
-not_held ClosingAsR e = cc
+not_held h e = cc
 
 -- what a peer closes it held, or octets came on it, and it doesn't hold it any more
 abbrev pub ClosesOwn : Peer → PeerEvent → Conn → Peer → Type 0

@@ -1,5 +1,5 @@
 -- An event concerns one neighbour at most.
-use Rattle.std.proofs.Common.{◌≡◌, inl, inr, ℕ, true, false, Option, None, Some, IfSome, List, sym, ap, ◌∙◌}
+use Rattle.std.proofs.Common.{◌≡◌, inl, inr, ℕ, Option, None, Some, IfSome, List, sym, ap, ◌∙◌}
 use Rattle.dm_base.specs.Before.{lower}
 use Rattle.dm_machine.specs.declared.connection.Conn.{Conn}
 use Rattle.dm_peer.specs.declared.peer.Peer.{Peer}
@@ -11,43 +11,31 @@ use Rattle.dm_node.specs.Policies.{Policy}
 use Rattle.dm_node.specs.Telling.{IsCallOf, IsPorter, IsFirstFor, IsAddressed, Concerns}
 use Rattle.dm_node.specs.declared.events.NodeEvent.{NodeEvent}
 use Rattle.dm_node.specs.declared.events.NodeEvent.TheVariants as event
-use Rattle.dm_node.proofs.Basics.{one_some, one_inside}
-
--- a connection that is held by one is held
-not_free : (ps : List (Option Peer)) (c : Conn) (i : ℕ) → holds_at ps c i ≡ true →
-    ((j : ℕ) → holds_at ps c j ≡ false) → ⊥
-not_free ps c i held free = let clash : true ≡ false = sym held ∙ free i in absurd (cc)
-
-same_host : (a b : Caller) → a ≡ b → lower a.1 ≡ lower b.1
-same_host a b e = ap (λ (x : Caller). lower x.1) e
+use Rattle.dm_node.proofs.Basics.{one_some, one_inside, two_truths}
 
 -- octets on a connection concern one
 one_called : (ps : List (Option Peer)) (s : List ℕ) (i j : ℕ) → IsNeighbourhood ps → IsCallOf ps s i → IsCallOf ps s j →
     i ≡ j
 one_called ps s i j n a b =
-    let same = same_host b.0 a.0 (one_inside (caller_of s) b.0 a.0 b.1 a.1) in
-    n.unlike.one i j (lower a.0.1) a.2 (b.2 ∙ ap Some same)
+    n.unlike.one i j (lower a.0.1) a.2
+    (b.2 ∙ ap (λ (call : Caller). Some (lower call.1)) (one_inside (caller_of s) b.0 a.0 b.1 a.1))
 
 pub one_addressed : (policy : Policy) (ps : List (Option Peer)) (c : Conn) (s : List ℕ) (i j : ℕ) → IsNeighbourhood ps →
     IsAddressed policy ps c s i → IsAddressed policy ps c s j → i ≡ j
 one_addressed policy ps c s i j n (inl a) (inl b) = n.apart.one i j c a b
-one_addressed policy ps c s i j n (inl a) (inr b) = absurd (not_free ps c i a b.0)
-one_addressed policy ps c s i j n (inr a) (inl b) = absurd (not_free ps c j b a.0)
+one_addressed policy ps c s i j n (inl a) (inr b) = absurd (two_truths (holds_at ps c i) a (b.0 i))
+one_addressed policy ps c s i j n (inr a) (inl b) = absurd (two_truths (holds_at ps c j) b (a.0 j))
 one_addressed policy ps c s i j n (inr (free, inl a)) (inr (also, inl b)) = one_called ps s i j n a b
 one_addressed policy ps c s i j n (inr (free, inl a)) (inr (also, inr b)) = absurd (b.0 i a)
 one_addressed policy ps c s i j n (inr (free, inr a)) (inr (also, inl b)) = absurd (a.0 j b)
 one_addressed policy ps c s i j n (inr (free, inr a)) (inr (also, inr b)) = one_some i j (sym a.1.0 ∙ b.1.0)
 
 pub one_is_concerned : OneIsConcerned
-one_is_concerned policy ps (event.Start m c) i j n a b = sym a ∙ b
-one_is_concerned policy ps (event.Stop m cause) i j n a b = sym a ∙ b
-one_is_concerned policy ps (event.Timeout m) i j n a b = sym a ∙ b
-one_is_concerned policy ps (event.Tick m) i j n a b = sym a ∙ b
-one_is_concerned policy ps (event.Submit m octets) i j n a b = sym a ∙ b
 one_is_concerned policy ps (event.Ack c) i j n a b = n.apart.one i j c a b
 one_is_concerned policy ps (event.Nack c) i j n a b = n.apart.one i j c a b
 one_is_concerned policy ps (event.Arrived c octets) i j n a b = one_addressed policy ps c octets.now i j n a b
 one_is_concerned policy ps (event.Gone c) i j n a b = n.apart.one i j c a b
+one_is_concerned policy ps e i j n a b = sym a ∙ b
 
 -- where no host calls and there is no porter first octets are for nobody
 pub for_nobody : (policy : Policy) (ps : List (Option Peer)) (s : List ℕ) → ((i : ℕ) → IsCallOf ps s i → ⊥) →

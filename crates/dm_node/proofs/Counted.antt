@@ -6,6 +6,8 @@ use Rattle.dm_peer.specs.declared.peer.Peer.{Peer}
 use Rattle.dm_node.specs.Emptying.{set_back, without_peer, with_set_back, all_set_back}
 use Rattle.dm_node.specs.Holding.{peer_at}
 use Rattle.dm_node.specs.Strangers.{present}
+use Rattle.dm_node.proofs.Basics.{there_mapped}
+use Rattle.dm_node.proofs.Places.{longer}
 
 -- one where somebody is
 abbrev one : Option Peer → ℕ
@@ -27,10 +29,6 @@ present_put ps y = let pushed = sum_by_push one ps (Some y) in pushed ∙ omega 
 -- no more than there are places
 pub present_few : (ps : List (Option Peer)) → present ps ≤ length ps
 present_few ps = count_by-le-length is_some ps
-
-longer : (ps : List (Option Peer)) (y : Option Peer) → length (ps ++ y ∷ []) ≡ suc (length ps)
-longer [] y = refl
-longer (x ∷ xs) y = ap suc (longer xs y)
 
 pub room_for : (ps qs : List (Option Peer)) (y : Peer) (n : ℕ) → n ≡ present ps → qs ≡ ps ++ Some y ∷ [] →
     n < length qs
@@ -77,19 +75,15 @@ counted_less ps qs i n m None at is less some none =
 counted_less ps qs i n m (Some p) at is less some none =
     same_suc m (present (without_peer ps i)) (sym some ∙ is ∙ present_gone ps i p (sym at)) ∙ sym (ap present less)
 
-some_set_back : (o : Option Peer) → is_some (option_map set_back o) ≡ is_some o
-some_set_back None = refl
-some_set_back (Some p) = refl
-
 pub present_back : (ps qs : List (Option Peer)) (i : ℕ) → qs ≡ with_set_back ps i → present qs ≡ present ps
 present_back ps qs i is =
-    ap present is ∙ present_set ps i (option_map set_back (peer_at ps i)) (some_set_back (peer_at ps i))
+    ap present is ∙ present_set ps i (option_map set_back (peer_at ps i)) (there_mapped set_back (peer_at ps i))
 
 each_there : (ps : List (Option Peer)) → present (all_set_back ps) ≡ present ps
 each_there [] = refl
 each_there (x ∷ xs) =
     first (option_map set_back x) (all_set_back xs)
-    ∙ ap (λ b. cond b 1 0 + present (all_set_back xs)) (some_set_back x)
+    ∙ ap (λ b. cond b 1 0 + present (all_set_back xs)) (there_mapped set_back x)
     ∙ ap (λ n. one x + n) (each_there xs) ∙ sym (first x xs)
 
 pub present_all_back : (ps qs : List (Option Peer)) → qs ≡ all_set_back ps → present qs ≡ present ps

@@ -20,5 +20,3 @@ module _ (ps : List (Option Peer)) (i : ℕ) (x : Peer) (at : peer_at ps i ≡ S
   rule_of f out =
       subst (λ (p : Peer). refusal_of p.standing.core.state e ≡ Some f) (one_some out.peer x (sym out.at ∙ at))
       out.rule
-
--- what was done wasn't refused, and one fault is refused with

@@ -9,5 +9,3 @@ pub known_err : {S T P : Type 0} (f : AddFault) → (IsErrOf {T = S} (Err f) Kno
     (IsErrOf {T = T} (Err f) Known ↔ P)
 known_err Known k = (λ e. k.0 refl, λ p. refl)
 known_err NoMemory k = (λ e. absurd (cc), λ p. let never = k.1 p in absurd (cc))
-
--- what was done wasn't refused, and one fault is refused with

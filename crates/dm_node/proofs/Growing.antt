@@ -1,5 +1,5 @@
 -- A neighbour that holds nothing, with a host of its own, is put behind the others.
-use Rattle.std.proofs.Common.{◌≡◌, ℕ, true, false, List, Option, [], ◌∷◌, ◌++◌, Some, sym, ap, subst, ◌∙◌, inl, inr}
+use Rattle.std.proofs.Common.{◌≡◌, ℕ, true, false, List, Option, [], ◌∷◌, ◌++◌, Some, sym, ap, ◌∙◌}
 use Rattle.dm_base.specs.Before.{lower}
 use Rattle.dm_machine.specs.declared.connection.Conn.{Conn}
 use Rattle.dm_peer.specs.declared.config.Config.{Config}
@@ -10,7 +10,7 @@ use Rattle.dm_peer.specs.After.{fresh_standing}
 use Rattle.dm_machine.specs.Connection.{hold_of}
 use Rattle.dm_node.specs.Holding.{is_held, holds, holds_it, holds_at, host_of, host_at, AreApart, AreUnlike}
 use Rattle.dm_node.proofs.Basics.{two_truths}
-use Rattle.dm_node.proofs.Places.{grown}
+use Rattle.dm_node.proofs.Places.{grown_cases}
 
 pub fresh_holds : (y : Peer) (n : ℕ) (c : Conn) → y.standing ≡ fresh_standing n → holds c y ≡ false
 fresh_holds y n c is = ap (λ (s : Standing). is_held (hold_of s.core c)) is
@@ -18,27 +18,23 @@ fresh_holds y n c is = ap (λ (s : Standing). is_held (hold_of s.core c)) is
 pub still : (ps : List (Option Peer)) (y : Peer) (n : ℕ) (c : Conn) (j : ℕ) → y.standing ≡ fresh_standing n →
     holds_at (ps ++ Some y ∷ []) c j ≡ true →
     holds_at ps c j ≡ true
-still ps y n c j is h =
-    elim (grown ps (Some y) j) [
-      | inl same ↦ subst (λ o. holds_it c o ≡ true) same h
-      | inr last ↦ absurd (two_truths (holds c y) (subst (λ o. holds_it c o ≡ true) last.1 h) (fresh_holds y n c is))
-    ]
+still ps y n c j is =
+    grown_cases (λ o. holds_it c o ≡ true → holds_at ps c j ≡ true) ps (Some y) j
+    (λ last held. absurd (two_truths (holds c y) held (fresh_holds y n c is))) (λ held. held)
 
 pub unlike_grown : (ps : List (Option Peer)) (y : Peer) (host : List ℕ) → y.config.peer ≡ host →
     ((j : ℕ) → host_at ps j ≡ Some (lower host) → ⊥) → AreUnlike ps → AreUnlike (ps ++ Some y ∷ [])
 unlike_grown ps y host is none unlike = record {
-  one = λ i j h p q.
-      elim (grown ps (Some y) i) [
-        | inl a ↦ elim (grown ps (Some y) j) [
-          | inl b ↦ unlike.one i j h (sym (ap host_of a) ∙ p) (sym (ap host_of b) ∙ q)
-          | inr b ↦ absurd (none i (sym (ap host_of a) ∙ p ∙ sym q ∙ ap host_of b.1 ∙ ap (λ z. Some (lower z)) is))
-        ]
-        | inr a ↦ elim (grown ps (Some y) j) [
-          | inl b ↦ absurd (none j (sym (ap host_of b) ∙ q ∙ sym p ∙ ap host_of a.1 ∙ ap (λ z. Some (lower z)) is))
-          | inr b ↦ a.0 ∙ sym b.0
-        ]
-      ];
+  one = λ i j h.
+      grown_cases (λ o. host_of o ≡ Some h → host_at (ps ++ Some y ∷ []) j ≡ Some h → i ≡ j) ps (Some y) i
+      (λ last p. grown_cases (λ o. host_of o ≡ Some h → i ≡ j) ps (Some y) j (λ also q. last ∙ sym also)
+      (λ q. absurd (none j (q ∙ sym p ∙ own))))
+      (λ p. grown_cases (λ o. host_of o ≡ Some h → i ≡ j) ps (Some y) j (λ also q. absurd (none i (p ∙ sym q ∙ own)))
+      (unlike.one i j h p));
 }
+  where
+    own : host_of (Some y) ≡ Some (lower host)
+    own = ap (λ z. Some (lower z)) is
 
 past_none : (i : ℕ) (c : Conn) → holds_at [] c i ≡ true → ⊥
 past_none i c h = cc

@@ -1,23 +1,23 @@
 -- Where nothing was left to tell, nothing is left behind a turn but the rest of the piece.
-use Rattle.std.proofs.Common.{◌≡◌, ◌≤◌, ◌+◌, ◌-◌, ℕ, zero, suc, Bool, true, false, cond, Option, None, Some, IfSome, List, [], ◌∷◌, ◌++◌, length, take, refl, sym, ap, ◌∙◌, subst, arith, length-append}
-use Rattle.std.proofs.lemmas.Bool.{eq-eqb}
-use Rattle.std.proofs.lemmas.List.{append-nil, length-take-le}
+use Rattle.std.proofs.Common.{◌≡◌, ◌≤◌, ◌+◌, ◌-◌, ℕ, zero, suc, false, cond, Option, None, Some, IfSome, List, [], ◌∷◌, ◌++◌, length, take, refl, sym, ap, ◌∙◌, subst, arith, length-append}
+use Rattle.std.proofs.lemmas.Bool.{eq-eqb, cond_both}
+use Rattle.std.proofs.lemmas.List.{append-nil, length-take-le, take-take}
 use Rattle.std.proofs.Math.Seq.{take-append-add}
 use Rattle.std.specs.Option.{option_map}
 use Rattle.dm_framer.specs.Frames.{IsFrame, HasFault, IsPartial, BeginsWithNoFrame}
 use Rattle.dm_framer.specs.declared.fault.FrameFault.{FrameFault}
 use Rattle.dm_framer.specs.declared.fault.FrameFault.TheVariants.{BadVersion, BadLength, TooLong, NoMemory}
-use Rattle.dm_machine.specs.Moves.{is_open}
 use Rattle.dm_machine.specs.declared.connection.Conn.{Conn}
 use Rattle.dm_node.specs.Policies.{Policy}
 use Rattle.dm_peer.specs.declared.actions.Action.{Action}
 use Rattle.dm_peer.specs.declared.peer.Peer.{Peer}
 use Rattle.dm_slots.specs.Hearing.{TakesFront, TakesFrontAt}
-use Rattle.dm_slots.specs.Intakes.{Intake, Intakes, IsFirst, IsToldOut, is_conn_number, with_intake, with_max, fed_intake, broken_intake, actions_close, left_by, raised_at}
-use Rattle.dm_slots.specs.Raised.{own_of, other_of}
+use Rattle.dm_slots.specs.Intakes.{Intake, IsFirst, IsToldOut, with_intake, with_max, fed_intake, broken_intake, actions_close, left_by}
 use Rattle.dm_node.specs.NodeHearing.{NodeHeardOut}
-use Rattle.dm_node.specs.NodeStates.{NodeState, NodeAnswer, NodeTellsAs, NodeIsOut, concerned_in, raised_for, node_fed, node_settled, with_node_intakes}
+use Rattle.dm_node.specs.NodeStates.{NodeState, NodeAnswer, NodeTellsAs, NodeIsOut, concerned_in, node_fed, node_settled, with_node_intakes}
 use Rattle.dm_node.proofs.NodeCuts.{longer, fed_whole}
+use Rattle.dm_node.proofs.Basics.{one_some}
+use Rattle.dm_node.proofs.NodeStaying.{raised_keeps}
 use Rattle.dm_node.proofs.NodeHeard.{at_itself, unbroken_before}
 
 -- whatever the maximum is, nothing is to be told
@@ -27,28 +27,6 @@ IsOutAnyway o = IfSome o (λ i. (m : ℕ) → IsToldOut (with_max m i))
 out_raised : (m : ℕ) (o : Option Intake) → IsOutAnyway o → IsOutAnyway (option_map (with_max m) o)
 out_raised m None out = tt
 out_raised m (Some i) out = λ k. out k
-
-out_raised_at : (m : ℕ) (conn : Option Conn) (f : Intakes) (d : ℕ) → IsOutAnyway (f d) → IsOutAnyway (raised_at m conn f d)
-out_raised_at m conn f d out = by (is_conn_number d conn)
-  where
-    by : (b : Bool) → IsOutAnyway (cond b (option_map (with_max m) (f d)) (f d))
-    by true = out_raised m (f d) out
-    by false = out
-
-out_raised_for : (m : ℕ) (p : Option Peer) (f : Intakes) (d : ℕ) → IsOutAnyway (f d) → IsOutAnyway (raised_for m p f d)
-out_raised_for m None f d out = out
-out_raised_for m (Some p) f d out = by (is_open p.standing.core.state)
-  where
-    by : (b : Bool) → IsOutAnyway (cond b (raised_at m (other_of p) (raised_at m (own_of p) f)) f d)
-    by true = out_raised_at m (other_of p) (raised_at m (own_of p) f) d (out_raised_at m (own_of p) f d out)
-    by false = out
-
-out_left : (actions : List Action) (f : Intakes) (d : ℕ) → IsOutAnyway (f d) → IsOutAnyway (left_by actions f d)
-out_left actions f d out = by (actions_close actions d)
-  where
-    by : (b : Bool) → IsOutAnyway (cond b None (f d))
-    by true = tt
-    by false = out
 
 out_anyway : (o : Option Intake) → IsOutAnyway o → IfSome o IsToldOut
 out_anyway None out = tt
@@ -63,7 +41,8 @@ out_settled c i who qs actions s t out is =
     let here : f c.0 ≡ Some i = ap (λ b. cond b (Some i) (s.intakes c.0)) (eq-eqb c.0 c.0 refl) in
     let first : IsOutAnyway (f c.0) = subst IsOutAnyway (sym here) out in
     subst (λ (v : NodeState). NodeIsOut c v) (sym is)
-    (out_anyway _ (out_raised_for s.most (concerned_in qs who) (left_by actions f) c.0 (out_left actions f c.0 first)))
+    (out_anyway _ (raised_keeps IsOutAnyway s.most c.0 (out_raised s.most) (concerned_in qs who) (left_by actions f)
+    (cond_both (actions_close actions c.0) None (f c.0) IsOutAnyway (λ e. tt) (λ e. first))))
 
 nothing_kept : (m : ℕ) → IsPartial m []
 nothing_kept m = record { no_frame = none; no_fault = fine }
@@ -90,17 +69,13 @@ begins_before max k octets piece message x xs within frame is none =
     ∙ length-append message (x ∷ xs) in
     let more = length octets + k - length message in
     let front : octets ++ take k piece ≡ take (length octets + k) (octets ++ take (suc k) piece) =
-    ap (λ l. octets ++ l) (sym (take_shorter k piece)) ∙ sym (take-append-add octets (take (suc k) piece) k) in
+    ap (λ l. octets ++ l) (sym (take-take k (suc k) piece (omega arith)))
+    ∙ sym (take-append-add octets (take (suc k) piece) k) in
     let fits : length octets + k ≡ length message + more = omega (arith, long) in
     let split : octets ++ take k piece ≡ message ++ take more (x ∷ xs) =
     front ∙ ap (take (length octets + k)) is ∙ ap (λ n. take n (message ++ (x ∷ xs))) fits
     ∙ take-append-add message (x ∷ xs) more in
     none message (take more (x ∷ xs)) frame split
-  where
-    take_shorter : (n : ℕ) (l : List ℕ) → take n (take (suc n) l) ≡ take n l
-    take_shorter zero l = refl
-    take_shorter (suc n) [] = refl
-    take_shorter (suc n) (y ∷ l) = ap (λ v. y ∷ v) (take_shorter n l)
 
 -- the message that was completed is all that is kept
 none_behind : (i : Intake) (piece message rest : List ℕ) (size : ℕ) → TakesFront i piece size → i.is_broken ≡ false →
@@ -132,10 +107,7 @@ module _ (c : Conn) (piece : List ℕ) (size : ℕ) (s : NodeState) (out : NodeI
       let same : Some (fed_intake (take size piece) j) ≡ Some i =
       ap (option_map (fed_intake (take size piece))) (sym before.1) ∙ here in
       rest_is_none j i message rest before.1 before.2
-      (sym (the_same (fed_intake (take size piece) j) i same) ∙ fed_whole (take size piece) j before.2) first
-    where
-      the_same : (x y : Intake) → Some x ≡ Some y → x ≡ y
-      the_same x y e = cc
+      (sym (one_some (fed_intake (take size piece) j) i same) ∙ fed_whole (take size piece) j before.2) first
 
   told_as : (policy : Policy) (arrived : Option Conn) (answer : NodeAnswer) (t : NodeState) →
       NodeTellsAs policy arrived c (node_fed c (take size piece) s) answer t → NodeIsOut c t

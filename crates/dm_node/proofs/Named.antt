@@ -1,5 +1,6 @@
 -- The look-up of hosts: what is found in it, and what keeps it.
-use Rattle.std.proofs.Common.{◌≡◌, ◌≤◌, ℕ, suc, Bool, true, false, ◌&&◌, nat_le, List, [], ◌∷◌, length, Option, None, Some, IsSome, IfSome, IfNone, if◌then◌else◌, refl, sym, ap, subst, ◌∙◌, arith}
+use Rattle.std.proofs.Common.{◌≡◌, ◌≤◌, ℕ, suc, Bool, true, false, nat_le, List, [], ◌∷◌, length, Option, None, Some, IsSome, IfSome, IfNone, if◌then◌else◌, refl, sym, ap, subst, ◌∙◌, arith}
+use Rattle.std.proofs.lemmas.Bool.{and_parts}
 use Rattle.dm_base.specs.Before.{lower}
 use Rattle.dm_base.specs.Codes.{max_name_len}
 use Rattle.dm_peer.specs.declared.config.Config.{Config}
@@ -7,15 +8,11 @@ use Rattle.dm_peer.specs.declared.peer.Peer.{Peer}
 use Rattle.dm_node.specs.declared.hosts.Hosts.{Hosts}
 use Rattle.dm_node.specs.Holding.{peer_at, host_of, host_at, AreUnlike}
 use Rattle.dm_node.specs.Naming.{noted_number, AreHostsNoted}
-use Rattle.dm_node.proofs.Basics.{no_some, two_truths}
-
-and_right : (a b : Bool) → (a && b) ≡ true → b ≡ true
-and_right true b e = e
-and_right false b e = absurd (cc)
+use Rattle.dm_node.proofs.Basics.{one_some, no_some, two_truths}
 
 -- the host of a configuration isn't too long to be noted
 pub fits : (c : Config) → nat_le (length c.peer) max_name_len ≡ true
-fits c = and_right _ _ c.fit_peer
+fits c = (and_parts _ _ c.fit_peer).1
 
 pub at_most : (n m : ℕ) → nat_le n m ≡ true → n ≤ m
 at_most n m e = grind arith
@@ -23,9 +20,6 @@ at_most n m e = grind arith
 same_length : (h : List ℕ) → length (lower h) ≡ length h
 same_length [] = refl
 same_length (x ∷ xs) = ap suc (same_length xs)
-
-pub some_host : (h g : List ℕ) → Some h ≡ Some g → h ≡ g
-some_host h g e = cc
 
 -- who has a host is there, and the host isn't too long
 pub there_of : (h : List ℕ) (o : Option Peer) → host_of o ≡ Some h → IsSome o
@@ -37,7 +31,7 @@ short_of : (host : List ℕ) (o : Option Peer) → host_of o ≡ Some (lower hos
 short_of host None e = no_some _ e
 short_of host (Some p) e =
     subst (λ n. nat_le n max_name_len ≡ true)
-    (sym (same_length p.config.peer) ∙ ap length (some_host (lower p.config.peer) (lower host) e) ∙ same_length host)
+    (sym (same_length p.config.peer) ∙ ap length (one_some (lower p.config.peer) (lower host) e) ∙ same_length host)
     (fits p.config)
 
 module _ (o : Hosts) (ps : List (Option Peer)) (host : List ℕ) (named : AreHostsNoted o ps) where

@@ -1,13 +1,11 @@
 -- A host that is no neighbour becomes one at its CER: what is held behind it, and what is closed.
-use Rattle.std.proofs.Common.{◌≡◌, inl, inr, ◌⊎◌, ℕ, Bool, true, false, not, ◌&&◌, ◌==◌, nat_eq, IsTrue, Option, None, Some, List, [], ◌∷◌, ◌++◌, length, refl, sym, ap, ◌∙◌, subst}
-use Rattle.std.proofs.lemmas.Bool.{eqb-true}
+use Rattle.std.proofs.Common.{◌≡◌, inl, inr, ◌⊎◌, ℕ, true, false, ◌==◌, IsTrue, Option, None, Some, List, refl, sym, ap, ◌∙◌, subst}
+use Rattle.std.proofs.lemmas.Bool.{eqb-false, cases_eq, false_from_ne_true, true_from_ne_false}
 use Rattle.dm_base.specs.declared.node.Node.{Node}
 use Rattle.dm_history.specs.History.{new_peer}
 use Rattle.dm_machine.specs.declared.connection.Conn.{Conn}
-use Rattle.dm_machine.specs.Connection.{Hold, NotHeld, Pending, Made, OpenAsI, ClosingAsI, Taken, OpenAsR, ClosingAsR, Concern, concern_of, if_named, AtConnection}
-use Rattle.dm_machine.specs.Moves as moves
 use Rattle.dm_machine.specs.Node.{is_shaped}
-use Rattle.dm_machine.specs.Openings.{is_hold, names_it, LeavesOthersAlone, ClosesWhatItGivesUp}
+use Rattle.dm_machine.specs.Openings.{LeavesOthersAlone, ClosesWhatItGivesUp}
 use Rattle.dm_node.specs.Adding.{with_new}
 use Rattle.dm_node.specs.Calling.{caller_of, answer_to}
 use Rattle.dm_node.specs.Holding.{peer_at, holds_it, holds_at, AreApart}
@@ -17,64 +15,19 @@ use Rattle.dm_node.specs.Telling.{IsAddressed, IsFree}
 use Rattle.dm_peer.specs.declared.actions.Action.{Action}
 use Rattle.dm_peer.specs.declared.config.Config.{Config}
 use Rattle.dm_peer.specs.declared.peer.Peer.{Peer}
-use Rattle.dm_peer.specs.Acts.{Moved, acts, input_of}
-use Rattle.dm_peer.specs.Configs.{wins}
+use Rattle.dm_peer.specs.Acts.{Moved, acts}
 use Rattle.dm_peer.specs.Events.{Arrived}
-use Rattle.dm_peer.specs.Holding.{is_held, holds, OthersStayUnheld, ClosedIsUnheld}
-use Rattle.dm_peer.specs.Said.{Heard}
+use Rattle.dm_peer.specs.Holding.{holds, OthersStayUnheld, ClosedIsUnheld}
 use Rattle.dm_peer.specs.Settled.{FreshIsSettled, EachEventKeepsSettled}
-use Rattle.dm_peer.specs.Steps.{EachEventIsOneStep, Follows, IsStep}
-use Rattle.dm_slots.specs.Intakes.{Intakes, is_there, actions_close}
+use Rattle.dm_peer.specs.Steps.{EachEventIsOneStep}
+use Rattle.dm_slots.specs.Intakes.{Intakes, actions_close}
 use Rattle.dm_slots.specs.Naming.{NamesThere}
 use Rattle.dm_node.specs.NodeHeld.{AllHeldAreThere, AreKept}
 use Rattle.dm_node.proofs.Basics.{one_some, two_truths}
 use Rattle.dm_node.proofs.Closing.{ClosesItsOwn, closes_shaped}
-use Rattle.dm_node.proofs.NodeMoving.{unlike, free_of, held_told, came_there, octets_alone, closed_told, closed_answer}
-use Rattle.dm_node.proofs.Places.{grown}
-
--- what octets do to a peer: it takes no other connection
-not_named : (d : Conn) (s : List ℕ) (h : Option Heard) (c : Conn) → (d.0 == c.0) ≡ false →
-    names_it (concern_of (input_of (Arrived d s) h) c) ≡ false
-not_named d s h c e = other _ (d.0 == c.0) e
-  where
-    other : (k : Concern) (b : Bool) → b ≡ false → names_it (if_named b k) ≡ false
-    other k b is = rw is refl
-
-free_hold : (h : Hold) → is_held h ≡ false → is_hold NotHeld h ≡ true
-free_hold NotHeld e = refl
-free_hold Pending e = cc
-free_hold Made e = cc
-free_hold OpenAsI e = cc
-free_hold ClosingAsI e = cc
-free_hold Taken e = cc
-free_hold OpenAsR e = cc
-free_hold ClosingAsR e = cc
-
-both : (a b : Bool) → a ≡ true → b ≡ false → IsTrue (a && not b)
-both a b p q = rw (p, q) refl
-
-step_takes : LeavesOthersAlone → (p q : Peer) (d : Conn) (octets : List ℕ) (actions : List Action) →
-    IsTrue (is_shaped p.standing.core) → IsStep p (Arrived d octets) actions q → (c : Conn) →
-    (d.0 == c.0) ≡ false → holds c p ≡ false → holds c q ≡ false
-step_takes alone p q d octets actions shaped s c other free =
-    let i = input_of (Arrived d octets) s.heard in
-    let at : AtConnection (λ k before after orders.
-    IsTrue (is_hold NotHeld before && not (names_it k)) → (after ≡ NotHeld) × (orders ≡ []))
-    p.standing.core i c (moves.NodeMoved s.commands q.standing.core) =
-    subst (λ o. AtConnection (λ k before after orders.
-    IsTrue (is_hold NotHeld before && not (names_it k)) → (after ≡ NotHeld) × (orders ≡ []))
-    p.standing.core i c o) s.moves
-    (alone p.standing.core i (wins p.config) c shaped) in
-    ap is_held (at (both _ _ (free_hold _ free) (not_named d octets s.heard c other))).0
-
-pub takes_named : EachEventIsOneStep → LeavesOthersAlone → (p q : Peer) (d : Conn) (octets : List ℕ)
-    (actions : List Action) → IsTrue (is_shaped p.standing.core) → acts p (Arrived d octets) ≡ Moved actions q →
-    (c : Conn) → (d.0 == c.0) ≡ false → holds c p ≡ false → holds c q ≡ false
-takes_named step alone p q d octets actions shaped is c other free =
-    elim (subst (Follows p (Arrived d octets)) is (step p (Arrived d octets))) [
-      | inl s ↦ step_takes alone p q d octets actions shaped s c other free
-      | inr r ↦ subst (λ x. holds c x ≡ false) (sym r.same) free
-    ]
+use Rattle.dm_node.proofs.NodeMoving.{held_told, came_there, octets_alone, closed_told, closed_answer}
+use Rattle.dm_node.proofs.Places.{grown_here, grown_else}
+use Rattle.dm_node.proofs.Taking.{stays}
 
 -- what is known of the events of a peer
 pub record PeerLaws : Type 0 where
@@ -84,19 +37,21 @@ pub record PeerLaws : Type 0 where
   pub alone : LeavesOthersAlone
   pub gives_up : ClosesWhatItGivesUp
 
+pub peer_laws : EachEventIsOneStep → FreshIsSettled → EachEventKeepsSettled → LeavesOthersAlone →
+    ClosesWhatItGivesUp → PeerLaws
+peer_laws step fresh settled alone gives_up =
+    record { step = step; fresh = fresh; settled = settled; alone = alone; gives_up = gives_up }
+
 fresh_shaped : PeerLaws → (k : Config) → IsTrue (is_shaped (new_peer k k.first_id).standing.core)
 fresh_shaped laws k = (laws.fresh k k.first_id).shaped
 
 -- a new peer that is told octets holds at most their connection
 first_holds : PeerLaws → (k : Config) (q : Peer) (c d : Conn) (octets : List ℕ) (actions : List Action) →
     acts (new_peer k k.first_id) (Arrived c octets) ≡ Moved actions q → holds d q ≡ true → (c.0 == d.0) ≡ true
-first_holds laws k q c d octets actions is held = by (c.0 == d.0) refl
-  where
-    by : (b : Bool) → (c.0 == d.0) ≡ b → (c.0 == d.0) ≡ true
-    by true e = e
-    by false e =
-        absurd (two_truths (holds d q) held
-        (takes_named laws.step laws.alone (new_peer k k.first_id) q c octets actions (fresh_shaped laws k) is d e refl))
+first_holds laws k q c d octets actions is held =
+    true_from_ne_false (c.0 == d.0) (λ other. two_truths (holds d q) held
+    (stays laws.step laws.alone (new_peer k k.first_id) q (Arrived c octets) actions (fresh_shaped laws k) is d
+    (λ same. eqb-false c.0 d.0 other (ap (λ (x : Conn). x.0) (one_some c d same))) refl))
 
 -- and closes at most that, which it doesn't hold then
 record ClosesAtMost (c d : Conn) (q : Peer) : Type 0 where
@@ -116,11 +71,6 @@ first_closes laws k q c d octets actions is closing =
       unheld = own.1;
     }
 
--- whom an unknown host becomes
-pub last_at : (ps : List (Option Peer)) (y : Option Peer) → peer_at (ps ++ y ∷ []) (length ps) ≡ y
-last_at [] y = refl
-last_at (x ∷ xs) y = last_at xs y
-
 -- a new peer was told the octets
 pub joined : (ps qs : List (Option Peer)) (i : ℕ) (c : Conn) (octets : List ℕ) (actions : List Action) (k : Config)
     (h : Joins ps qs i c octets actions k) →
@@ -128,49 +78,42 @@ pub joined : (ps qs : List (Option Peer)) (i : ℕ) (c : Conn) (octets : List �
 joined ps qs i c octets actions k h =
     subst (λ x. acts x (Arrived c octets) ≡ Moved actions h.told.after)
     (one_some h.told.before (new_peer k k.first_id)
-    (sym h.told.was ∙ ap (peer_at (with_new ps k)) h.number ∙ last_at ps (Some (new_peer k k.first_id))))
+    (sym h.told.was ∙ ap (peer_at (with_new ps k)) h.number ∙ grown_here ps (Some (new_peer k k.first_id))))
     h.told.acts
 
 -- the others are what they were
 pub else_at : (ps qs : List (Option Peer)) (i j : ℕ) (c : Conn) (octets : List ℕ) (actions : List Action) (k : Config) →
     Joins ps qs i c octets actions k → (j ≡ i → ⊥) → peer_at qs j ≡ peer_at ps j
 else_at ps qs i j c octets actions k h un =
-    h.told.others j un ∙ elim (grown ps (Some (new_peer k k.first_id)) j) [
-      | inl same ↦ same
-      | inr last ↦ absurd (un (last.0 ∙ sym h.number))
-    ]
+    h.told.others j un ∙ grown_else ps (Some (new_peer k k.first_id)) j (λ last. un (last ∙ sym h.number))
 
 pub held_joined : PeerLaws → (ps qs : List (Option Peer)) (i : ℕ) (c : Conn) (octets : List ℕ)
     (actions : List Action) (k : Config) (f : Intakes) → Joins ps qs i c octets actions k → AllHeldAreThere ps f →
     NamesThere (Arrived c octets) f → AllHeldAreThere qs f
-held_joined laws ps qs i c octets actions k f h there named j d held = by (nat_eq j i) refl
-  where
-    by : (b : Bool) → nat_eq j i ≡ b → is_there d.0 f ≡ true
-    by true same =
-        named d (first_holds laws k h.told.after c d octets actions (joined ps qs i c octets actions k h)
-        (sym (ap (holds_it d) (ap (peer_at qs) (eqb-true j i same) ∙ h.told.is)) ∙ held))
-    by false other =
-        there j d
-        (sym (ap (holds_it d) (else_at ps qs i j c octets actions k h (unlike j i other))) ∙ held)
+held_joined laws ps qs i c octets actions k f h there named j d held =
+    elim (cases_eq j i) [
+      | inl s ↦
+          named d (first_holds laws k h.told.after c d octets actions (joined ps qs i c octets actions k h)
+          (sym (ap (holds_it d) (ap (peer_at qs) s ∙ h.told.is)) ∙ held))
+      | inr un ↦ there j d (sym (ap (holds_it d) (else_at ps qs i j c octets actions k h un)) ∙ held)
+    ]
 
 -- nobody holds a connection on which an unknown host calls
 pub stranger_free : (policy : Policy) (ps : List (Option Peer)) (c : Conn) (octets : List ℕ) →
     ((i : ℕ) → IsAddressed policy ps c octets i → ⊥) → IsFree ps c
-stranger_free policy ps c octets nobody j = free_of (holds_at ps c j) (λ held. nobody j (inl held))
+stranger_free policy ps c octets nobody j = false_from_ne_true (holds_at ps c j) (λ held. nobody j (inl held))
 
 closed_joined : PeerLaws → (ps qs : List (Option Peer)) (i : ℕ) (c : Conn) (octets : List ℕ) (actions : List Action)
     (k : Config) → Joins ps qs i c octets actions k → IsFree ps c → (d : Conn) → actions_close actions d.0 ≡ true →
     IsFree qs d
-closed_joined laws ps qs i c octets actions k h free d closing j = by (nat_eq j i) refl
-  where
-    most : ClosesAtMost c d h.told.after
-    most = first_closes laws k h.told.after c d octets actions (joined ps qs i c octets actions k h) closing
-
-    by : (b : Bool) → nat_eq j i ≡ b → holds_at qs d j ≡ false
-    by true same = ap (holds_it d) (ap (peer_at qs) (eqb-true j i same) ∙ h.told.is) ∙ most.unheld
-    by false other =
-        ap (holds_it d) (else_at ps qs i j c octets actions k h (unlike j i other))
-        ∙ subst (λ x. holds_at ps x j ≡ false) most.same (free j)
+closed_joined laws ps qs i c octets actions k h free d closing j =
+    let most = first_closes laws k h.told.after c d octets actions (joined ps qs i c octets actions k h) closing in
+    elim (cases_eq j i) [
+      | inl s ↦ ap (holds_it d) (ap (peer_at qs) s ∙ h.told.is) ∙ most.unheld
+      | inr un ↦
+          ap (holds_it d) (else_at ps qs i j c octets actions k h un)
+          ∙ subst (λ x. holds_at ps x j ≡ false) most.same (free j)
+    ]
 
 closed_out : PeerLaws → (ps qs : List (Option Peer)) (c : Conn) (octets : List ℕ) (actions : List Action)
     (k : Config) → StaysOut ps qs c octets actions k → IsFree ps c → (d : Conn) → actions_close actions d.0 ≡ true →

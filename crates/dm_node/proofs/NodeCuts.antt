@@ -14,6 +14,7 @@ use Rattle.dm_slots.specs.Intakes.{Intake, Intakes, is_conn_number, with_intake,
 use Rattle.dm_slots.specs.Raised.{own_of, other_of}
 use Rattle.dm_node.specs.NodeStreams.{NodeTellsAlong, NodeCutsAlike}
 use Rattle.dm_node.specs.NodeStates.{NodeState, NodeTurn, NodeAnswer, NodeTellsMessage, NodeTellsFault, NodeTellsAs, concerned_in, raised_for, node_fed, node_settled, with_node_intakes}
+use Rattle.dm_node.proofs.NodeStaying.{node_at}
 
 -- what came and wasn't broken off
 abbrev with_octets : ℕ → List ℕ → Intake
@@ -120,11 +121,8 @@ pub fed_settled : (c : Conn) (more : List ℕ) (i j : Intake) (who : Option ℕ)
     ≡ node_settled who qs actions
     (with_node_intakes (with_intake c.0 (Some j) (node_fed c more s).intakes) (node_fed c more s))
 fed_settled c more i j who qs actions s is =
-    ap with_these
+    ap (node_at s qs)
     (fed_behind_any c.0 more s.most (concerned_in qs who) _ _ (fed_and_left c.0 more i j actions s.intakes is))
-  where
-    with_these : Intakes → NodeState
-    with_these f = record { node = s.node; peers = qs; intakes = f; first_max = s.first_max; most = s.most }
 
 -- the intake with a piece more
 abbrev pub longer : List ℕ → Intake → Intake

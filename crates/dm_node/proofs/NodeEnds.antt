@@ -1,66 +1,39 @@
 -- Behind a Close of a node's connection, and behind its end, nothing is told of it.
-use Rattle.std.proofs.Common.{◌≡◌, inl, inr, ℕ, Bool, true, false, cond, nat_eq, Option, None, Some, is_some, true≢false, List, refl, sym, ap, ◌∙◌, subst}
+use Rattle.std.proofs.Common.{◌≡◌, inl, inr, ℕ, Bool, true, false, cond, nat_eq, Option, None, Some, is_some, List, [], refl, sym, ap, ◌∙◌, subst}
 use Rattle.std.proofs.Math.Path.{fun_ext}
 use Rattle.std.proofs.lemmas.Bool.{eqb-true}
 use Rattle.std.specs.Option.{option_map}
-use Rattle.dm_machine.specs.Moves.{is_open}
 use Rattle.dm_machine.specs.declared.connection.Conn.{Conn}
 use Rattle.dm_node.specs.declared.events.NodeEvent.{NodeEvent}
 use Rattle.dm_node.specs.declared.events.NodeEvent.TheVariants as event
 use Rattle.dm_node.specs.Policies.{Policy}
-use Rattle.dm_peer.specs.declared.peer.Peer.{Peer}
-use Rattle.dm_slots.specs.Intakes.{Intake, Intakes, is_there, is_conn_number, with_intake, broken_intake, taken_down, fed_intake, with_max, actions_close, left_by, raised_at}
-use Rattle.dm_slots.specs.Raised.{own_of, other_of}
+use Rattle.dm_slots.specs.Intakes.{Intakes, is_there, taken_down, fed_intake, with_max, actions_close, left_by}
 use Rattle.dm_node.specs.declared.order.Order.{Order}
 use Rattle.dm_node.specs.declared.order.Order.TheVariants as order
 use Rattle.dm_node.specs.NodeEnding.{IsOnConn, NodeGoneKeepsNothing}
 use Rattle.dm_node.specs.NodeOrders.{NodeTellsOnce, NodeTellsNothing, NodeTellsIfThere, NodeTellsNack, NodeTellsEnd, NodeTakes, ShutsUnheld}
-use Rattle.dm_node.specs.NodeStates.{NodeState, NodeAnswer, NodeTellsAs, concerned_in, raised_for, node_settled, with_node_intakes}
-
-none_raised_at : (m : ℕ) (o : Option Conn) (f : Intakes) (d : ℕ) → f d ≡ None → raised_at m o f d ≡ None
-none_raised_at m o f d h = by (is_conn_number d o)
-  where
-    by : (b : Bool) → cond b (option_map (with_max m) (f d)) (f d) ≡ None
-    by true = ap (option_map (with_max m)) h
-    by false = h
-
-none_raised : (m : ℕ) (o : Option Peer) (f : Intakes) (d : ℕ) → f d ≡ None → raised_for m o f d ≡ None
-none_raised m None f d h = h
-none_raised m (Some q) f d h = by (is_open q.standing.core.state)
-  where
-    by : (b : Bool) → cond b (raised_at m (other_of q) (raised_at m (own_of q) f)) f d ≡ None
-    by true = none_raised_at m (other_of q) (raised_at m (own_of q) f) d (none_raised_at m (own_of q) f d h)
-    by false = h
+use Rattle.dm_node.specs.NodeStates.{NodeState, NodeAnswer, NodeTellsOctets, NodeTellsAs, concerned_in, with_node_intakes}
+use Rattle.dm_node.proofs.Basics.{no_some}
+use Rattle.dm_node.proofs.NodeStaying.{raised_keeps}
 
 -- what was closed isn't there
-closed_is_gone : (s t : NodeState) (answer : NodeAnswer) (qs : List (Option Peer)) (d : ℕ) →
-    t ≡ node_settled answer.neighbour qs answer.actions s → actions_close answer.actions d ≡ true → t.intakes d ≡ None
-closed_is_gone s t answer qs d left is =
-    ap (λ (v : NodeState). v.intakes d) left
-    ∙ none_raised s.most (concerned_in qs answer.neighbour) (left_by answer.actions s.intakes) d
+closed_is_gone : (policy : Policy) (c : Conn) (octets : List ℕ) (s t : NodeState) (answer : NodeAnswer) (d : ℕ) →
+    NodeTellsOctets policy c octets s answer t → actions_close answer.actions d ≡ true → t.intakes d ≡ None
+closed_is_gone policy c octets s t answer d told is =
+    ap (λ (v : NodeState). v.intakes d) told.left
+    ∙ raised_keeps (λ o. o ≡ None) s.most d (λ o none. ap (option_map (with_max s.most)) none)
+    (concerned_in told.peers answer.neighbour) (left_by answer.actions s.intakes)
     (ap (λ b. cond b None (s.intakes d)) is)
-
--- the node with what is left of an intake
-abbrev with_rest : Conn → NodeState → Intake → List ℕ → NodeState
-with_rest c s i rest = with_node_intakes (with_intake c.0 (Some (record i { octets = rest })) s.intakes) s
-
-abbrev with_broken : Conn → NodeState → Intake → NodeState
-with_broken c s i = with_node_intakes (with_intake c.0 (Some (broken_intake i)) s.intakes) s
 
 pub close_is_last : (policy : Policy) (arrived : Option Conn) (c d : Conn) (s t : NodeState) (answer : NodeAnswer) →
     NodeTellsAs policy arrived c s answer t → actions_close answer.actions d.0 ≡ true → t.intakes d.0 ≡ None
-close_is_last policy None c d s t answer h is =
-    closed_is_gone (with_broken c s h.intake) t answer h.told.peers d.0 h.told.left is
-close_is_last policy (Some e) c d s t answer h is =
-    closed_is_gone (with_rest c s h.1.intake h.1.rest) t answer h.1.told.peers d.0 h.1.told.left is
-
-some_and_none : (o : Option Intake) (i : Intake) → o ≡ None → o ≡ Some i → ⊥
-some_and_none o i none some = true≢false (ap is_some (sym some ∙ none))
+close_is_last policy None c d s t answer h is = closed_is_gone policy c [] _ t answer d.0 h.told is
+close_is_last policy (Some e) c d s t answer h is = closed_is_gone policy c h.1.message _ t answer d.0 h.1.told is
 
 pub gone_tells_nothing : (policy : Policy) (arrived : Option Conn) (c : Conn) (s t : NodeState)
     (answer : NodeAnswer) → s.intakes c.0 ≡ None → NodeTellsAs policy arrived c s answer t → ⊥
-gone_tells_nothing policy None c s t answer none h = some_and_none (s.intakes c.0) h.intake none h.there
-gone_tells_nothing policy (Some e) c s t answer none h = some_and_none (s.intakes c.0) h.1.intake none h.1.there
+gone_tells_nothing policy None c s t answer none h = no_some h.intake (sym none ∙ h.there)
+gone_tells_nothing policy (Some e) c s t answer none h = no_some h.1.intake (sym none ∙ h.1.there)
 
 -- an event of a connection that isn't there
 not_there : (c d : Conn) (e : NodeEvent) (s t : NodeState) (asks : Option NodeAnswer) → s.intakes c.0 ≡ None →
@@ -105,14 +78,7 @@ gone_is_silent c (order.Ack d) s t asks none same h =
     (nothing.0, ap (λ (v : NodeState). v.intakes c.0) nothing.1 ∙ none)
 gone_is_silent c (order.Nack d) s t asks none same h = nack_not_there c d s t asks none same h
 gone_is_silent c (order.Gone d) s t asks none same h = end_not_there c d (event.Gone d) s t asks none same h
-gone_is_silent c (order.Start n d) s t asks none same h = absurd same
-gone_is_silent c (order.Accept d) s t asks none same h = absurd same
-gone_is_silent c (order.Timeout n) s t asks none same h = absurd same
-gone_is_silent c (order.Tick n) s t asks none same h = absurd same
-gone_is_silent c (order.Stop n cause) s t asks none same h = absurd same
-gone_is_silent c (order.Submit n octets) s t asks none same h = absurd same
-gone_is_silent c (order.Reset n) s t asks none same h = absurd same
-gone_is_silent c order.ResetAll s t asks none same h = absurd same
+gone_is_silent c o s t asks none same h = absurd same
 
 -- nothing is kept of a connection that isn't there
 gone_kept_at : (d c : ℕ) (piece : List ℕ) (f : Intakes) → f c ≡ None → (b : Bool) → nat_eq c d ≡ b →

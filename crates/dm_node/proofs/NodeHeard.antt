@@ -24,10 +24,7 @@ abbrev emptied : Intake → Intake
 emptied i = record { octets = []; max = i.max; is_broken = i.is_broken }
 
 was_empty : (i : Intake) → i.octets ≡ [] → emptied i ≡ i
-was_empty i none = ap (λ l. with_these l) (sym none)
-  where
-    with_these : List ℕ → Intake
-    with_these l = record { octets = l; max = i.max; is_broken = i.is_broken }
+was_empty i none = ap (λ l. record i { octets = l }) (sym none)
 
 -- where nothing was kept, a message that came and went leaves nothing
 came_and_went : (c : Conn) (message : List ℕ) (s : NodeState) (i : Intake) → s.intakes c.0 ≡ Some i →
@@ -148,22 +145,18 @@ unbroken_before l (Some j) i e whole = (j, refl, by j.is_broken refl) where
       let same : fed_intake l j ≡ j = ap (λ x. cond x j (longer l j)) b in
       sym b ∙ ap (λ (v : Intake). v.is_broken) (sym same ∙ is) ∙ whole
 
-pub kept_first : (c : Conn) (piece : List ℕ) (s : NodeState) (i : Intake) → s.intakes c.0 ≡ Some i →
-    i.is_broken ≡ false → IfSome (s.intakes c.0) (λ j. IsNotWhole j piece) → IsKeptFirst c piece s
-kept_first c piece s i there whole none = record {
-  intake = i;
-  there = there;
-  whole = whole;
-  not_whole = subst (λ o. IfSome o (λ j. IsNotWhole j piece)) there none;
-}
-
 pub kept_before : (c : Conn) (piece l : List ℕ) (s r : NodeState) (i : Intake) → r ≡ node_fed c l s →
     r.intakes c.0 ≡ Some i → i.is_broken ≡ false → IfSome (s.intakes c.0) (λ j. IsNotWhole j piece) →
     IsKeptFirst c piece s
 kept_before c piece l s r i fed there whole none =
     let before = unbroken_before l (s.intakes c.0) i
     (sym (ap (λ (v : NodeState). v.intakes c.0) fed ∙ at_itself c l s) ∙ there) whole in
-    kept_first c piece s before.0 before.1 before.2 none
+    record {
+      intake = before.0;
+      there = before.1;
+      whole = before.2;
+      not_whole = subst (λ o. IfSome o (λ j. IsNotWhole j piece)) before.1 none;
+    }
 
 pub kept_next : (policy : Policy) (c : Conn) (piece l : List ℕ) (s r : NodeState) → r ≡ node_fed c l s →
     IfSome (s.intakes c.0) (λ j. IsNotWhole j piece) →

@@ -6,8 +6,8 @@ use Rattle.std.proofs.Common.{refl, sym, ap, ◌∙◌, subst, arith}
 use Rattle.std.specs.Prelude.{nat_lt, slice_get}
 use Rattle.std.proofs.Math.ListN.{set}
 use Rattle.std.proofs.Math.Path.{fun_ext}
-use Rattle.std.proofs.lemmas.Bool.{eqb-true, lt-ltb, le-ltb, and_parts, not-true}
-use Rattle.std.proofs.lemmas.List.{map-append, length-map}
+use Rattle.std.proofs.lemmas.Bool.{true_from_ne_false, lt-ltb, le-ltb, and_parts, not-true}
+use Rattle.std.proofs.lemmas.List.{map-append, map-set, length-map}
 use Rattle.std.specs.Option.{option_flatten, option_copied}
 use Rattle.dm_wire.specs.declared.message.Message.{Message}
 use Rattle.dm_wire.specs.Whole.{message_in}
@@ -38,24 +38,24 @@ use Rattle.dm_node.specs.NodeKnown.{KnownAfterOrder}
 use Rattle.dm_node.specs.NodeOrders.{ShutsUnheld}
 use Rattle.dm_node.specs.Neighbourhoods.{IsNeighbourhood}
 use Rattle.dm_node.specs.NodeStates.{NodeState, NodeAnswer, concerned_in}
-use Rattle.dm_node.proofs.Basics.{two_truths}
+use Rattle.dm_node.proofs.Basics.{one_some, two_truths, there_mapped}
 use Rattle.dm_node.proofs.Concerned.{one_is_concerned}
 use Rattle.dm_node.proofs.Newcomers.{peers_stay}
-use Rattle.dm_node.proofs.NodeMoving.{unlike}
 use Rattle.dm_node.proofs.Places.{nobody_behind}
+use Rattle.dm_node.proofs.Taking.{told_set}
 
 -- Places that are taken.
 
-there_mapped : {A : Type 0} (f : A → A) (x : Option A) → is_some (option_map f x) ≡ is_some x
-there_mapped f None = refl
-there_mapped f (Some x) = refl
+-- where somebody is put in for somebody, or nobody for nobody, the same are taken
+same_set : {A : Type 0} (l : List (Option A)) (i : ℕ) (y : Option A) →
+    is_some y ≡ is_some (option_flatten (slice_get l i)) → map is_some (set l i y) ≡ map is_some l
+same_set [] i y same = refl
+same_set (x ∷ xs) zero y same = ap (λ b. b ∷ map is_some xs) same
+same_set (x ∷ xs) (suc i) y same = ap (λ l. is_some x ∷ l) (same_set xs i y same)
 
--- where what has one is changed, the same are taken
-pub same_changed : {A : Type 0} (f : A → A) (l : List (Option A)) (i : ℕ) →
+same_changed : {A : Type 0} (f : A → A) (l : List (Option A)) (i : ℕ) →
     map is_some (set l i (option_map f (option_flatten (slice_get l i)))) ≡ map is_some l
-same_changed f [] i = refl
-same_changed f (x ∷ xs) zero = ap (λ b. b ∷ map is_some xs) (there_mapped f x)
-same_changed f (x ∷ xs) (suc i) = ap (λ l. is_some x ∷ l) (same_changed f xs i)
+same_changed f l i = same_set l i _ (there_mapped f (option_flatten (slice_get l i)))
 
 -- and where each is
 pub same_each : {A : Type 0} (f : A → A) (l : List (Option A)) → map is_some (map (option_map f) l) ≡ map is_some l
@@ -63,31 +63,11 @@ same_each f [] = refl
 same_each f (x ∷ xs) = ap (λ b. b ∷ map is_some (map (option_map f) xs)) (there_mapped f x)
     ∙ ap (λ l. is_some x ∷ l) (same_each f xs)
 
--- one is left
-left_one : {A : Type 0} (l : List (Option A)) (i : ℕ) → map is_some (set l i None) ≡ set (map is_some l) i false
-left_one [] i = refl
-left_one (x ∷ xs) zero = refl
-left_one (x ∷ xs) (suc i) = ap (λ l. is_some x ∷ l) (left_one xs i)
-
--- two lists of neighbours of which the same are there
-same_there : (ps qs : List (Option Peer)) → length qs ≡ length ps →
-    ((j : ℕ) → is_some (peer_at qs j) ≡ is_some (peer_at ps j)) → map is_some qs ≡ map is_some ps
-same_there [] [] count each = refl
-same_there [] (q ∷ qs) count each = absurd (omega (arith, count))
-same_there (p ∷ ps) [] count each = absurd (omega (arith, count))
-same_there (p ∷ ps) (q ∷ qs) count each =
-    let fewer : length qs ≡ length ps = omega (arith, count) in
-    ap (λ b. b ∷ map is_some qs) (each zero) ∙ ap (λ l. is_some p ∷ l) (same_there ps qs fewer (λ j. each (suc j)))
-
+-- and where one is told something
 told_there : (ps qs : List (Option Peer)) (i : ℕ) (e : PeerEvent) (actions : List Action) →
     PeerIsTold ps qs i e actions → map is_some qs ≡ map is_some ps
-told_there ps qs i e actions h = same_there ps qs h.count (λ j. by j (nat_eq j i) refl)
-  where
-    by : (j : ℕ) (b : Bool) → nat_eq j i ≡ b → is_some (peer_at qs j) ≡ is_some (peer_at ps j)
-    by j true same =
-        ap (λ k. is_some (peer_at qs k)) (eqb-true j i same) ∙ ap is_some h.is ∙ sym (ap is_some h.was)
-        ∙ sym (ap (λ k. is_some (peer_at ps k)) (eqb-true j i same))
-    by j false other = ap is_some (h.others j (unlike j i other))
+told_there ps qs i e actions h =
+    ap (map is_some) (told_set ps qs i e actions h) ∙ same_set ps i (Some h.after) (sym (ap is_some h.was))
 
 -- who is there has a number below how many places there are
 below : (ps : List (Option Peer)) (i : ℕ) (p : Peer) → peer_at ps i ≡ Some p → i < length ps
@@ -148,7 +128,8 @@ known_added (Err e) ps qs config ks ls added unchanged more same known =
 pub known_fewer : (ps qs : List (Option Peer)) (ks : List (Option Acquaintance)) (i : ℕ) → AreKnown ps ks →
     qs ≡ set ps i None → AreKnown qs (set ks i None)
 known_fewer ps qs ks i known is =
-    left_one ks i ∙ ap (λ l. set l i false) known ∙ sym (left_one ps i) ∙ sym (ap (map is_some) is)
+    map-set is_some ks i None ∙ ap (λ l. set l i false) known ∙ sym (map-set is_some ps i None)
+    ∙ sym (ap (map is_some) is)
 
 pub known_back : (ps qs : List (Option Peer)) (ks : List (Option Acquaintance)) (i : ℕ) → AreKnown ps ks →
     qs ≡ set ps i (option_map set_back (peer_at ps i)) → AreKnown qs ks
@@ -160,7 +141,6 @@ known_all_back ps qs ks known is = known ∙ sym (same_each set_back ps) ∙ sym
 
 -- What a neighbour was told.
 
--- a host that is taken in was nobody before
 -- the state that was looked at is that of whom an event concerns, and Closed where it concerns nobody
 pub record IsStateOf (concerns : ℕ → Type 0) (ps : List (Option Peer)) (state : State) : Type 0 where
   pub told : (i : ℕ) → concerns i → state ≡ peer_state (peer_at ps i)
@@ -178,25 +158,23 @@ state_looked policy ps e (Some k) state apart concerned nobody is = record {
   nobody = λ none. absurd (none k concerned);
 }
 
--- it is the one in which a neighbour was told octets
-state_moved : (policy : Policy) (c : Conn) (octets : List ℕ) (n : Node) (ps qs : List (Option Peer)) (i : ℕ)
-    (actions : List Action) (state : State) → IsStateOf (IsAddressed policy ps c octets) ps state →
-    NodeMoves policy c octets n ps (Some i) actions qs → state ≡ peer_state (peer_at ps i)
-state_moved policy c octets n ps qs i actions state looked (inl (concerned, told)) = looked.told i concerned
-state_moved policy c octets n ps qs i actions state looked (inr (config, permitted, joins)) =
-    looked.nobody permitted.unknown.nobody
-    ∙ sym (ap peer_state (ap (peer_at ps) joins.number ∙ nobody_behind ps))
-
--- the peer behind it
-record IsBehind (qs : List (Option Peer)) (i : ℕ) : Type 0 where
+-- the peer behind octets, and the state in which it was told them, which is the one that was looked at
+record IsBehind (ps qs : List (Option Peer)) (i : ℕ) (state : State) : Type 0 where
   after : Peer
   is : peer_at qs i ≡ Some after
+  begun : state ≡ peer_state (peer_at ps i)
 
 moved_behind : (policy : Policy) (c : Conn) (octets : List ℕ) (n : Node) (ps qs : List (Option Peer)) (i : ℕ)
-    (actions : List Action) → NodeMoves policy c octets n ps (Some i) actions qs → IsBehind qs i
-moved_behind policy c octets n ps qs i actions (inl (concerned, told)) = record { after = told.after; is = told.is }
-moved_behind policy c octets n ps qs i actions (inr (config, permitted, joins)) =
-    record { after = joins.told.after; is = joins.told.is }
+    (actions : List Action) (state : State) → IsStateOf (IsAddressed policy ps c octets) ps state →
+    NodeMoves policy c octets n ps (Some i) actions qs → IsBehind ps qs i state
+moved_behind policy c octets n ps qs i actions state looked (inl (concerned, told)) =
+    record { after = told.after; is = told.is; begun = looked.told i concerned }
+moved_behind policy c octets n ps qs i actions state looked (inr (config, permitted, joins)) = record {
+  after = joins.told.after;
+  is = joins.told.is;
+  begun = looked.nobody permitted.unknown.nobody
+      ∙ sym (ap peer_state (ap (peer_at ps) joins.number ∙ nobody_behind ps));
+}
 
 -- The copy of a message.
 
@@ -238,12 +216,11 @@ pub meets : (policy : Policy) (c : Conn) (octets : List ℕ) (n : Node) (ps qs :
     MeetsAny (λ state q a. known_at c state q octets a) who ps qs ks ls
 meets policy c octets n ps qs None actions ks js ls before exchange looked is same moved met unmet = unmet refl ∙ same
 meets policy c octets n ps qs (Some i) actions ks js ls before exchange looked is same moved met unmet =
-    let behind = moved_behind policy c octets n ps qs i actions moved in
+    let behind = moved_behind policy c octets n ps qs i actions before looked moved in
     let q = behind.after in
     let state = peer_state (peer_at ps i) in
-    let begun = state_moved policy c octets n ps qs i actions before looked moved in
     let known : (λ a. known_if_any exchange c before q a) ≡ (λ a. known_at c state q octets a) =
-    fun_ext (λ a. met_copied octets exchange c before state q is begun a) in
+    fun_ext (λ a. met_copied octets exchange c before state q is behind.begun a) in
     record {
       after = q;
       is = behind.is;
@@ -279,9 +256,6 @@ called_in (Some m) call is =
     by true r o e = refl
     by false r o e = absurd (true≢false (sym (ap is_some e)))
 
-one_of : (i j : ℕ) → Some i ≡ Some j → i ≡ j
-one_of i j e = grind arith
-
 -- there is room for a place more where one is taken in
 pub room_for : (policy : Policy) (c : Conn) (octets : List ℕ) (n : Node) (ps qs : List (Option Peer)) (who : Option ℕ)
     (actions : List Action) (ks : List (Option Acquaintance)) (before : State) (i : ℕ) → AreKnown ps ks →
@@ -291,7 +265,7 @@ room_for policy c octets n ps qs None actions ks before i there looked moved is 
     absurd (true≢false (sym (ap is_some is)))
 room_for policy c octets n ps qs (Some j) actions ks before i there looked (inl (concerned, told)) is none =
     absurd (true≢false (sym (has_place ps ks j told.before there told.was)
-    ∙ ap (λ k. nat_lt k (length ks)) (one_of j i is) ∙ none))
+    ∙ ap (λ k. nat_lt k (length ks)) (one_some j i is) ∙ none))
 room_for policy c octets n ps qs (Some j) actions ks before i there looked (inr (config, permitted, joins)) is none =
     let stranger = permitted.unknown in
     ap (λ s. is_exchange_to s octets) (looked.nobody stranger.nobody)
@@ -327,13 +301,12 @@ pub open_stays_after : (before : State) (q : Peer) (i : ℕ) (ks : List (Option 
     ks ≡ with_known i (known_after before q) ks
 open_stays_after before q i ks stood = sym (stays_at (known_after before q) ks i (λ a. known_so before q a stood))
 
-open_stays : (exchange : List ℕ) (c : Conn) (before : State) (q : Peer) (i : ℕ) (ks : List (Option Acquaintance)) →
-    is_open before ≡ true → exchange ≡ [] → nat_lt i (length ks) ≡ true →
-    ks ≡ with_known i (known_if_any exchange c before q) (given_place i ks)
-open_stays exchange c before q i ks stood none there =
-    sym (ap (λ b. with_known i (known_if_any exchange c before q) (cond b ks (with_nobody ks))) there
-    ∙ stays_at (known_if_any exchange c before q) ks i
-    (λ a. ap (λ m. known_if_any m c before q a) none ∙ known_so before q a stood))
+open_stays : (c : Conn) (before : State) (q : Peer) (i : ℕ) (ks : List (Option Acquaintance)) →
+    is_open before ≡ true → nat_lt i (length ks) ≡ true →
+    ks ≡ with_known i (known_if_any [] c before q) (given_place i ks)
+open_stays c before q i ks stood there =
+    open_stays_after before q i ks stood
+    ∙ sym (ap (λ b. with_known i (known_after before q) (cond b ks (with_nobody ks))) there)
 
 -- its place is there
 open_has_place : (policy : Policy) (c : Conn) (octets : List ℕ) (n : Node) (ps qs : List (Option Peer))
@@ -341,14 +314,10 @@ open_has_place : (policy : Policy) (c : Conn) (octets : List ℕ) (n : Node) (ps
     AreKnown ps ks → IsStateOf (IsAddressed policy ps c octets) ps before →
     NodeMoves policy c octets n ps who actions qs → who ≡ Some i → is_open before ≡ true → nat_lt i (length ks) ≡ true
 open_has_place policy c octets n ps qs who actions ks before i there looked moved is stood =
-    by (nat_lt i (length ks)) refl
-  where
-    by : (b : Bool) → nat_lt i (length ks) ≡ b → b ≡ true
-    by true e = refl
-    by false e =
-        let copied = room_for policy c octets n ps qs who actions ks before i there looked moved is e in
-        absurd (two_truths (is_open before) stood
-        (not-true (is_open before) (and_parts (not (is_open before)) (spells_exchange octets) copied).0))
+    true_from_ne_false (nat_lt i (length ks)) (λ e.
+    let copied = room_for policy c octets n ps qs who actions ks before i there looked moved is e in
+    two_truths (is_open before) stood
+    (not-true (is_open before) (and_parts (not (is_open before)) (spells_exchange octets) copied).0))
 
 -- so what is known stays at what it is told
 pub open_meets : (policy : Policy) (c : Conn) (octets : List ℕ) (n : Node) (ps qs : List (Option Peer))
@@ -358,7 +327,7 @@ pub open_meets : (policy : Policy) (c : Conn) (octets : List ℕ) (n : Node) (ps
 open_meets policy c octets n ps qs who actions ks before there looked moved stood =
     meets policy c octets n ps qs who actions ks ks ks before [] looked
     (sym (ap (λ b. cond (not b && spells_exchange octets) octets []) stood)) refl moved
-    (λ i q is behind. open_stays [] c before q i ks stood refl
+    (λ i q is behind. open_stays c before q i ks stood
     (open_has_place policy c octets n ps qs who actions ks before i there looked moved is stood)) (λ none. refl)
 
 -- no octets are nobody's CER
@@ -377,26 +346,12 @@ pub told_event : (policy : Policy) (e : NodeEvent) (n : Node) (ps qs : List (Opt
 told_event policy (event.Arrived c octets) n ps qs i actions calm (inl told) = told
 told_event policy (event.Arrived c octets) n ps qs i actions calm (inr (config, permitted, joins)) =
     absurd (calm (subst (λ o. IsSome o) (sym permitted.unknown.calls) refl))
-told_event policy (event.Start m c) n ps qs i actions calm told = told
-told_event policy (event.Stop m cause) n ps qs i actions calm told = told
-told_event policy (event.Timeout m) n ps qs i actions calm told = told
-told_event policy (event.Tick m) n ps qs i actions calm told = told
-told_event policy (event.Submit m octets) n ps qs i actions calm told = told
-told_event policy (event.Ack c) n ps qs i actions calm told = told
-told_event policy (event.Nack c) n ps qs i actions calm told = told
-told_event policy (event.Gone c) n ps qs i actions calm told = told
+told_event policy e n ps qs i actions calm told = told
 
 pub untold_event : (policy : Policy) (e : NodeEvent) (n : Node) (ps qs : List (Option Peer)) (actions : List Action) →
     NodeIsTold policy e n ps None actions qs → qs ≡ ps
 untold_event policy (event.Arrived c octets) n ps qs actions m = peers_stay policy c octets.now n ps qs actions m.1
-untold_event policy (event.Start i c) n ps qs actions m = m.2
-untold_event policy (event.Stop i cause) n ps qs actions m = m.2
-untold_event policy (event.Timeout i) n ps qs actions m = m.2
-untold_event policy (event.Tick i) n ps qs actions m = m.2
-untold_event policy (event.Submit i octets) n ps qs actions m = m.2
-untold_event policy (event.Ack c) n ps qs actions m = m.2
-untold_event policy (event.Nack c) n ps qs actions m = m.2
-untold_event policy (event.Gone c) n ps qs actions m = m.2
+untold_event policy e n ps qs actions m = m.2
 
 -- whom such an event met
 pub meets_after : (policy : Policy) (e : NodeEvent) (n : Node) (ps qs : List (Option Peer)) (who : Option ℕ)

@@ -1,10 +1,10 @@
 -- One neighbour is told an event: what is held behind it, what it closes, and who is kept.
 use Rattle.std.proofs.Common.{◌≡◌, inl, inr, ℕ, Bool, true, false, nat_eq, ◌||◌, true≢false, Option, None, Some, List, refl, sym, ap, ◌∙◌, subst}
-use Rattle.std.proofs.lemmas.Bool.{eqb-true, eq-eqb}
+use Rattle.std.proofs.lemmas.Bool.{eqb-true, false_from_ne_true}
 use Rattle.dm_base.specs.declared.node.Node.{Node}
 use Rattle.dm_machine.specs.declared.connection.Conn.{Conn}
 use Rattle.dm_node.specs.Calling.{Caller, answer_to}
-use Rattle.dm_node.specs.Holding.{peer_at, holds_it, holds_at, AreApart}
+use Rattle.dm_node.specs.Holding.{holds_it, holds_at, AreApart}
 use Rattle.dm_node.specs.Policies.{Policy}
 use Rattle.dm_node.specs.Telling.{IsAddressed, PeerIsTold, IsFree}
 use Rattle.dm_peer.specs.declared.actions.Action.{Action}
@@ -17,30 +17,21 @@ use Rattle.dm_slots.specs.Naming.{NamesThere}
 use Rattle.dm_node.specs.NodeHeld.{AllHeldAreThere, AreKept}
 use Rattle.dm_node.proofs.Basics.{two_truths}
 use Rattle.dm_node.proofs.Closing.{CameOn, ClosesItsOwn, closes_as}
-
-pub unlike : (j i : ℕ) → nat_eq j i ≡ false → j ≡ i → ⊥
-unlike j i e same = two_truths (nat_eq j i) (eq-eqb j i same) e
-
-pub free_of : (b : Bool) → (b ≡ true → ⊥) → b ≡ false
-free_of true un = absurd (un refl)
-free_of false un = refl
+use Rattle.dm_node.proofs.Taking.{told_cases}
 
 -- what is held behind it is there
 pub held_told : OthersStayUnheld → (ps qs : List (Option Peer)) (i : ℕ) (e : PeerEvent) (actions : List Action)
     (f : Intakes) → AreKept ps → PeerIsTold ps qs i e actions → AllHeldAreThere ps f → NamesThere e f → AllHeldAreThere qs f
-held_told others ps qs i e actions f kept told there named j c held = by (nat_eq j i) refl where
-  at : holds c told.after ≡ true → (b n : Bool) → holds c told.before ≡ b → names_conn e c ≡ n → is_there c.0 f ≡ true
-  at now true n before names = there i c (ap (holds_it c) told.was ∙ before)
-  at now false true before names = named c names
-  at now false false before names =
-      absurd (two_truths (holds c told.after) now
-      (others told.before told.after e actions c (kept i told.before told.was) told.acts before names))
-
-  by : (b : Bool) → nat_eq j i ≡ b → is_there c.0 f ≡ true
-  by true same =
-      at (sym (ap (holds_it c) (ap (peer_at qs) (eqb-true j i same) ∙ told.is)) ∙ held) (holds c told.before)
-      (names_conn e c) refl refl
-  by false other = there j c (sym (ap (holds_it c) (told.others j (unlike j i other))) ∙ held)
+held_told others ps qs i e actions f kept told there named j c held =
+    told_cases (λ o. holds_it c o ≡ true → is_there c.0 f ≡ true) ps qs i j e actions told
+    (λ s now. at now (holds c told.before) (names_conn e c) refl refl) (λ un. there j c) held
+  where
+    at : holds c told.after ≡ true → (b n : Bool) → holds c told.before ≡ b → names_conn e c ≡ n → is_there c.0 f ≡ true
+    at now true n before names = there i c (ap (holds_it c) told.was ∙ before)
+    at now false true before names = named c names
+    at now false false before names =
+        absurd (two_truths (holds c told.after) now
+        (others told.before told.after e actions c (kept i told.before told.was) told.acts before names))
 
 -- nobody else holds a connection on which the event brings octets
 abbrev pub IsHolderOf : List (Option Peer) → PeerEvent → ℕ → Type 0
@@ -62,23 +53,19 @@ octets_alone policy ps c octets i apart is j d came held =
 pub closed_told : ClosedIsUnheld → ClosesItsOwn → (ps qs : List (Option Peer)) (i : ℕ) (e : PeerEvent)
     (actions : List Action) → AreKept ps → AreApart ps → IsHolderOf ps e i → PeerIsTold ps qs i e actions →
     (c : Conn) → actions_close actions c.0 ≡ true → IsFree qs c
-closed_told closed own ps qs i e actions kept apart alone told c closing j = by (nat_eq j i) refl where
-  keeps : IsKept told.before
-  keeps = kept i told.before told.was
+closed_told closed own ps qs i e actions kept apart alone told c closing j =
+    told_cases (λ o. holds_it c o ≡ false) ps qs i j e actions told
+    (λ s. closed told.before told.after e actions c keeps told.acts (sym (closes_as c actions) ∙ closing))
+    (λ un. false_from_ne_true (holds_at ps c j) (other_holds un))
+  where
+    keeps : IsKept told.before
+    keeps = kept i told.before told.was
 
-  other_holds : (j ≡ i → ⊥) → holds_at ps c j ≡ true → ⊥
-  other_holds un held = elim (own told.before told.after e actions c keeps told.acts closing) [
-    | inl holding ↦ un (apart.one j i c held (ap (holds_it c) told.was ∙ holding))
-    | inr came ↦ un (alone j c came held)
-  ]
-
-  by : (b : Bool) → nat_eq j i ≡ b → holds_at qs c j ≡ false
-  by true same =
-      ap (holds_it c) (ap (peer_at qs) (eqb-true j i same) ∙ told.is)
-      ∙ closed told.before told.after e actions c keeps told.acts (sym (closes_as c actions) ∙ closing)
-  by false other =
-      ap (holds_it c) (told.others j (unlike j i other))
-      ∙ free_of (holds_at ps c j) (other_holds (unlike j i other))
+    other_holds : (j ≡ i → ⊥) → holds_at ps c j ≡ true → ⊥
+    other_holds un held = elim (own told.before told.after e actions c keeps told.acts closing) [
+      | inl holding ↦ un (apart.one j i c held (ap (holds_it c) told.was ∙ holding))
+      | inr came ↦ un (alone j c came held)
+    ]
 
 -- what a stranger's answer closes is his connection
 pub closed_answer : (n : Node) (d : Conn) (call : Option Caller) (c : Conn) → actions_close (answer_to n d call) c.0 ≡ true → d ≡ c

@@ -1,7 +1,7 @@
 -- What came on a node's connection is told out in one way.
-use Rattle.std.proofs.Common.{◌≡◌, inl, inr, ℕ, Bool, true, false, nat_eq, Option, None, Some, IfSome, List, [], ◌∷◌, ◌++◌, length, refl, sym, ap, ◌∙◌, subst}
+use Rattle.std.proofs.Common.{◌≡◌, inl, inr, ℕ, true, false, Option, None, Some, IsSome, IfSome, List, [], ◌∷◌, ◌++◌, length, refl, sym, ap, ◌∙◌, subst}
 use Rattle.std.specs.List.{concat}
-use Rattle.std.proofs.lemmas.Bool.{eqb-true}
+use Rattle.std.proofs.Math.ListN.{set}
 use Rattle.dm_base.specs.declared.node.Node.{Node}
 use Rattle.dm_base.specs.Before.{lower}
 use Rattle.dm_framer.specs.Laws.{OneFront, FrameOrFault, FaultStands}
@@ -9,7 +9,7 @@ use Rattle.dm_framer.specs.Frames.{HasFault}
 use Rattle.dm_history.specs.History.{new_peer}
 use Rattle.dm_machine.specs.declared.connection.Conn.{Conn}
 use Rattle.dm_node.specs.Adding.{with_new}
-use Rattle.dm_node.specs.Holding.{peer_at, holds_it, holds_at, host_of, host_at, AreApart, AreUnlike}
+use Rattle.dm_node.specs.Holding.{peer_at, holds_it, holds_at, host_of, host_at}
 use Rattle.dm_node.specs.Neighbourhoods.{IsNeighbourhood}
 use Rattle.dm_node.specs.Policies.{Policy}
 use Rattle.dm_node.specs.Strangers.{IsPermitted, NodeMoves}
@@ -17,22 +17,22 @@ use Rattle.dm_node.specs.Telling.{IsAddressed, PeerIsTold}
 use Rattle.dm_peer.specs.declared.actions.Action.{Action}
 use Rattle.dm_peer.specs.declared.config.Config.{Config}
 use Rattle.dm_peer.specs.declared.peer.Peer.{Peer}
-use Rattle.dm_peer.specs.Acts.{Moved, acts}
-use Rattle.dm_peer.specs.Events.{PeerEvent, Arrived}
-use Rattle.dm_peer.specs.Holding.{holds}
+use Rattle.dm_peer.specs.Events.{Arrived}
 use Rattle.dm_peer.specs.Settled.{IsSettled, LeavesSettled}
-use Rattle.dm_peer.specs.Steps.{EachEventIsOneStep, Follows}
 use Rattle.dm_slots.specs.Intakes.{Intake, IsFirst, IsFaulty, IsToldOut, with_intake, broken_intake}
 use Rattle.dm_node.specs.NodeLaws.{AreSoundNeighbours}
 use Rattle.dm_node.specs.NodeStreams.{NodeTellsAlong, NodeTellsPieces}
 use Rattle.dm_node.specs.NodeStates.{NodeState, NodeAnswer, NodeTurn, NodeTellsOctets, NodeTellsMessage, NodeTellsFault, NodeTellsAs, NodeIsOut, node_fed, node_settled, with_node_intakes}
-use Rattle.dm_node.proofs.Basics.{one_some, one_inside, two_truths}
-use Rattle.dm_node.proofs.Newcomers.{PeerLaws, takes_named, last_at, stranger_free, peers_stay}
+use Rattle.dm_node.proofs.Basics.{one_some, one_inside}
+use Rattle.dm_node.proofs.Newcomers.{PeerLaws, stranger_free, peers_stay}
 use Rattle.dm_node.proofs.NodeCuts.{cuts_alike, fed_nothing}
-use Rattle.dm_node.proofs.NodeMoving.{unlike}
+use Rattle.dm_node.proofs.Named.{unlike_same}
 use Rattle.dm_node.proofs.Concerned.{one_addressed}
 use Rattle.dm_node.proofs.OneMove.{moves_once}
-use Rattle.dm_node.proofs.Places.{grown}
+use Rattle.dm_node.proofs.Growing.{still, unlike_grown}
+use Rattle.dm_node.proofs.Places.{set_here, grown_cases, grown_here}
+use Rattle.dm_node.proofs.Rostered.{apart_less, each_grown, each_set}
+use Rattle.dm_node.proofs.Taking.{leaves, apart_after, hosts_after, told_set}
 
 -- what the laws of telling rest on
 pub record Wholly (ps : List (Option Peer)) : Type 0 where
@@ -46,11 +46,7 @@ wholly ps sound = record {
 }
 
 same_answer : (a b : NodeAnswer) → a.neighbour ≡ b.neighbour → a.actions ≡ b.actions → a ≡ b
-same_answer a b neighbour actions =
-    ap (λ w. of w a.actions) neighbour ∙ ap (λ l. of b.neighbour l) actions
-  where
-    of : Option ℕ → List Action → NodeAnswer
-    of w l = record { neighbour = w; actions = l }
+same_answer a b neighbour actions = λ i. record { neighbour = neighbour i; actions = actions i }
 
 -- octets are told in one way
 tells_once : (policy : Policy) (c : Conn) (octets : List ℕ) (s r t u : NodeState) (a b : NodeAnswer) →
@@ -67,7 +63,6 @@ tells_once policy c octets s r t u a b sound same h k =
           ∙ ap (λ l. node_settled b.neighbour l b.actions s) one.peers ∙ sym also.left,
     )
 
--- one intake is there
 -- the node with what is left of an intake
 abbrev with_rest : Conn → NodeState → Intake → List ℕ → NodeState
 with_rest c s i rest = with_node_intakes (with_intake c.0 (Some (record i { octets = rest })) s.intakes) s
@@ -131,93 +126,30 @@ out_tells_nothing policy (Some d) c s t a out h =
     let told : IsToldOut h.1.intake = subst (λ o. IfSome o IsToldOut) h.1.there out in
     (told h.1.first.whole).no_frame h.1.message h.1.rest h.1.first.frame h.1.first.octets
 
-config_stays : EachEventIsOneStep → (p q : Peer) (e : PeerEvent) (actions : List Action) → acts p e ≡ Moved actions q →
-    q.config ≡ p.config
-config_stays step p q e actions is =
-    elim (subst (Follows p e) is (step p e)) [
-      | inl s ↦ s.config
-      | inr d ↦ ap (λ (x : Peer). x.config) d.same
-    ]
-
--- behind octets no connection is held by two
-apart_told : PeerLaws → (policy : Policy) (c : Conn) (s : List ℕ) (ps qs : List (Option Peer)) (i : ℕ)
-    (actions : List Action) → Wholly ps → IsAddressed policy ps c s i → PeerIsTold ps qs i (Arrived c s) actions →
-    AreApart qs
-apart_told laws policy c s ps qs i actions sound at told = record {
-  one = λ j k d h g. by j k d h g (nat_eq j i) refl (nat_eq k i) refl;
-}
-  where
-    here : (j : ℕ) → nat_eq j i ≡ true → peer_at qs j ≡ Some told.after
-    here j same = ap (peer_at qs) (eqb-true j i same) ∙ told.is
-
-    before : (j : ℕ) (d : Conn) → nat_eq j i ≡ false → holds_at qs d j ≡ true → holds_at ps d j ≡ true
-    before j d other held = sym (ap (holds_it d) (told.others j (unlike j i other))) ∙ held
-
-    cross : (j : ℕ) (d : Conn) → nat_eq j i ≡ false → holds_at ps d j ≡ true → holds d told.after ≡ true →
-        (b : Bool) → holds d told.before ≡ b → (n : Bool) → nat_eq c.0 d.0 ≡ n → ⊥
-    cross j d other held now true was n named =
-        unlike j i other (sound.neighbourhood.apart.one j i d held (ap (holds_it d) told.was ∙ was))
-    cross j d other held now false was true named =
-        let same : c ≡ d = ap (λ m. record { 0 = m }) (eqb-true c.0 d.0 named) in
-        unlike j i other (one_addressed policy ps c s j i sound.neighbourhood
-        (inl (subst (λ x. holds_at ps x j ≡ true) (sym same) held)) at)
-    cross j d other held now false was false named =
-        two_truths (holds d told.after) now
-        (takes_named laws.step laws.alone told.before told.after c s actions
-        (sound.settled i told.before told.was).shaped told.acts d named was)
-
-    by : (j k : ℕ) (d : Conn) → holds_at qs d j ≡ true → holds_at qs d k ≡ true → (x : Bool) → nat_eq j i ≡ x →
-        (y : Bool) → nat_eq k i ≡ y → j ≡ k
-    by j k d h g true same true also = eqb-true j i same ∙ sym (eqb-true k i also)
-    by j k d h g true same false other =
-        absurd (cross k d other (before k d other g) (sym (ap (holds_it d) (here j same)) ∙ h) _ refl _ refl)
-    by j k d h g false other true same =
-        absurd (cross j d other (before j d other h) (sym (ap (holds_it d) (here k same)) ∙ g) _ refl _ refl)
-    by j k d h g false other false also =
-        sound.neighbourhood.apart.one j k d (before j d other h) (before k d also g)
-
--- and no two have one host
-hosts_stay : PeerLaws → (e : PeerEvent) (ps qs : List (Option Peer)) (i : ℕ) (actions : List Action) →
-    PeerIsTold ps qs i e actions → (j : ℕ) → host_at qs j ≡ host_at ps j
-hosts_stay laws e ps qs i actions told j = by (nat_eq j i) refl
-  where
-    by : (b : Bool) → nat_eq j i ≡ b → host_at qs j ≡ host_at ps j
-    by true same =
-        ap (λ k. host_at qs k) (eqb-true j i same) ∙ ap host_of told.is
-        ∙ ap (λ (k : Config). Some (lower k.peer)) (config_stays laws.step told.before told.after e actions told.acts)
-        ∙ sym (ap (λ k. host_at ps k) (eqb-true j i same) ∙ ap host_of told.was)
-    by false other = ap host_of (told.others j (unlike j i other))
-
-unlike_told : PeerLaws → (e : PeerEvent) (ps qs : List (Option Peer)) (i : ℕ) (actions : List Action) → AreUnlike ps →
-    PeerIsTold ps qs i e actions → AreUnlike qs
-unlike_told laws e ps qs i actions apart told = record {
-  one = λ j k host h g.
-      apart.one j k host (sym (hosts_stay laws e ps qs i actions told j) ∙ h)
-      (sym (hosts_stay laws e ps qs i actions told k) ∙ g);
-}
-
-settled_told : PeerLaws → (e : PeerEvent) (ps qs : List (Option Peer)) (i : ℕ) (actions : List Action) → Wholly ps →
-    PeerIsTold ps qs i e actions → (j : ℕ) (p : Peer) → peer_at qs j ≡ Some p → IsSettled p
-settled_told laws e ps qs i actions sound told j p at = by (nat_eq j i) refl
-  where
-    after : IsSettled told.after
-    after = subst LeavesSettled told.acts (laws.settled told.before e (sound.settled i told.before told.was))
-
-    by : (b : Bool) → nat_eq j i ≡ b → IsSettled p
-    by true same =
-        subst IsSettled (one_some told.after p (sym told.is ∙ sym (ap (peer_at qs) (eqb-true j i same)) ∙ at)) after
-    by false other = sound.settled j p (sym (told.others j (unlike j i other)) ∙ at)
-
+-- what octets leave is as sound as what was before them
 wholly_told : PeerLaws → (policy : Policy) (c : Conn) (s : List ℕ) (ps qs : List (Option Peer)) (i : ℕ)
     (actions : List Action) → Wholly ps → IsAddressed policy ps c s i → PeerIsTold ps qs i (Arrived c s) actions →
     Wholly qs
-wholly_told laws policy c s ps qs i actions sound at told = record {
-  neighbourhood = record {
-    apart = apart_told laws policy c s ps qs i actions sound at told;
-    unlike = unlike_told laws (Arrived c s) ps qs i actions sound.neighbourhood.unlike told;
-  };
-  settled = settled_told laws (Arrived c s) ps qs i actions sound told;
-}
+wholly_told laws policy c s ps qs i actions sound at told =
+    let e = Arrived c s in
+    let x = told.before in
+    let y = told.after in
+    let was = sound.settled i x told.was in
+    let now : peer_at (set ps i (Some y)) i ≡ Some y = set_here ps i (Some y) (subst IsSome (sym told.was) refl) in
+    let left = leaves laws.step laws.alone x y e was.shaped (inl (actions, told.acts)) in
+    let after : IsSettled y = subst LeavesSettled told.acts (laws.settled x e was) in
+    subst Wholly (sym (told_set ps qs i e actions told)) (record {
+      neighbourhood = record {
+        apart = apart_after ps i e x y told.was now left alone sound.neighbourhood.apart;
+        unlike = unlike_same ps _ (hosts_after ps i e x y told.was now left) sound.neighbourhood.unlike;
+      };
+      settled = each_set IsSettled ps i (Some y) (λ p is. subst IsSettled (one_some y p is) after) sound.settled;
+    })
+  where
+    alone : (j : ℕ) (d : Conn) → Some c ≡ Some d → holds_at ps d j ≡ true → j ≡ i
+    alone j d named held =
+        one_addressed policy ps c s j i sound.neighbourhood
+        (inl (subst (λ n. holds_at ps n j ≡ true) (sym (one_some c d named)) held)) at
 
 -- where a host is added that nobody has
 no_such_host : (policy : Policy) (ps : List (Option Peer)) (c : Conn) (octets : List ℕ) (k : Config) →
@@ -234,56 +166,27 @@ no_such_host policy ps c octets k h j is =
 
 wholly_added : PeerLaws → (policy : Policy) (ps : List (Option Peer)) (c : Conn) (octets : List ℕ) (k : Config) →
     Wholly ps → IsPermitted policy ps c octets k → Wholly (with_new ps k)
-wholly_added laws policy ps c octets k sound permitted = record {
-  neighbourhood = record {
-    apart = record {
-      one = λ i j d h g.
-          elim (grown ps (Some (new_peer k k.first_id)) i) [
-            | inl a ↦ elim (grown ps (Some (new_peer k k.first_id)) j) [
-              | inl b ↦
-                  sound.neighbourhood.apart.one i j d (sym (ap (holds_it d) a) ∙ h) (sym (ap (holds_it d) b) ∙ g)
-              | inr b ↦ absurd (two_truths (holds_at (with_new ps k) d j) g (ap (holds_it d) b.1))
-            ]
-            | inr a ↦ absurd (two_truths (holds_at (with_new ps k) d i) h (ap (holds_it d) a.1))
-          ];
-    };
-    unlike = record {
-      one = λ i j host h g.
-          elim (grown ps (Some (new_peer k k.first_id)) i) [
-            | inl a ↦ elim (grown ps (Some (new_peer k k.first_id)) j) [
-              | inl b ↦ sound.neighbourhood.unlike.one i j host (sym (ap host_of a) ∙ h) (sym (ap host_of b) ∙ g)
-              | inr b ↦ absurd (unlike_it i (sym (ap host_of a) ∙ h ∙ sym g ∙ ap host_of b.1))
-            ]
-            | inr a ↦ elim (grown ps (Some (new_peer k k.first_id)) j) [
-              | inl b ↦ absurd (unlike_it j (sym (ap host_of b) ∙ g ∙ sym h ∙ ap host_of a.1))
-              | inr b ↦ a.0 ∙ sym b.0
-            ]
-          ];
-    };
-  };
-  settled = λ i p at.
-      elim (grown ps (Some (new_peer k k.first_id)) i) [
-        | inl a ↦ sound.settled i p (sym a ∙ at)
-        | inr a ↦ subst IsSettled (one_some (new_peer k k.first_id) p (sym a.1 ∙ at)) (laws.fresh k k.first_id)
-      ];
-}
-  where
-    unlike_it : (j : ℕ) → host_at ps j ≡ Some (lower k.peer) → ⊥
-    unlike_it = no_such_host policy ps c octets k permitted
+wholly_added laws policy ps c octets k sound permitted =
+    let y = new_peer k k.first_id in
+    record {
+      neighbourhood = record {
+        apart = apart_less ps (with_new ps k) (λ j d. still ps y k.first_id d j refl) sound.neighbourhood.apart;
+        unlike = unlike_grown ps y k.peer refl (no_such_host policy ps c octets k permitted) sound.neighbourhood.unlike;
+      };
+      settled = each_grown IsSettled ps y (laws.fresh k k.first_id) sound.settled;
+    }
 
 -- its CER concerns it then
 added_is_addressed : (policy : Policy) (ps : List (Option Peer)) (c : Conn) (octets : List ℕ) (k : Config) (i : ℕ) →
     IsPermitted policy ps c octets k → i ≡ length ps → IsAddressed policy (with_new ps k) c octets i
 added_is_addressed policy ps c octets k i h here =
     inr (
-      λ j. elim (grown ps (Some (new_peer k k.first_id)) j) [
-        | inl a ↦ ap (holds_it c) a ∙ stranger_free policy ps c octets h.unknown.nobody j
-        | inr a ↦ ap (holds_it c) a.1
-      ],
+      λ j. grown_cases (λ o. holds_it c o ≡ false) ps (Some (new_peer k k.first_id)) j (λ last. refl)
+          (stranger_free policy ps c octets h.unknown.nobody j),
       inl (
         h.unknown.call,
         h.unknown.calls,
-        ap (host_at (with_new ps k)) here ∙ ap host_of (last_at ps (Some (new_peer k k.first_id)))
+        ap (host_at (with_new ps k)) here ∙ ap host_of (grown_here ps (Some (new_peer k k.first_id)))
             ∙ sym (ap (λ (host : List ℕ). Some (lower host)) h.unknown.named),
       ),
     )
@@ -312,10 +215,7 @@ next_wholly laws policy (Some d) c s t a sound h =
     told_wholly laws policy c h.1.message (with_rest c s h.1.intake h.1.rest) t a sound h.1.told
 
 same_turn : (turn other : NodeTurn) → turn.arrived ≡ other.arrived → turn.answer ≡ other.answer → turn ≡ other
-same_turn turn other arrived answer = ap (λ x. of x turn.answer) arrived ∙ ap (λ l. of other.arrived l) answer
-  where
-    of : Option Conn → NodeAnswer → NodeTurn
-    of x l = record { arrived = x; answer = l }
+same_turn turn other arrived answer = λ i. record { arrived = arrived i; answer = answer i }
 
 pub told_out_once : OneFront → FrameOrFault → PeerLaws → (policy : Policy) (c : Conn) (s t u : NodeState)
     (turns others : List NodeTurn) → Wholly s.peers → NodeTellsAlong policy c s turns t → NodeIsOut c t →

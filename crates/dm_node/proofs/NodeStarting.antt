@@ -1,10 +1,10 @@
 -- Orders of a node: a Start, and an end.
 use Rattle.std.proofs.Common.{◌≡◌, ℕ, Bool, true, false, cond, nat_eq, true≢false, is_some, Option, None, Some, List, refl, sym, ap, ◌∙◌, subst}
 use Rattle.std.proofs.Math.Path.{fun_ext}
-use Rattle.std.proofs.lemmas.Bool.{eqb-true}
+use Rattle.std.proofs.lemmas.Bool.{eqb-true, false_from_ne_true}
 use Rattle.dm_base.specs.declared.node.Node.{Node}
 use Rattle.dm_machine.specs.declared.connection.Conn.{Conn}
-use Rattle.dm_node.specs.Holding.{peer_at, holds_it, holds_at, AreApart}
+use Rattle.dm_node.specs.Holding.{holds_it, holds_at, AreApart}
 use Rattle.dm_node.specs.Policies.{no_strangers}
 use Rattle.dm_node.specs.Strangers.{NodeIsTold}
 use Rattle.dm_node.specs.Telling.{IsFree, PeerIsTold}
@@ -17,8 +17,8 @@ use Rattle.dm_slots.specs.Intakes.{Intake, Intakes, is_there, taken_down, with_i
 use Rattle.dm_node.specs.NodeHeld.{AllHeldAreThere, AreKept}
 use Rattle.dm_node.specs.NodeOrders.{node_opened, node_shut, NodeTellsOnce, NodeTellsNothing, NodeTellsIfThere, NodeTellsStart}
 use Rattle.dm_node.specs.NodeStates.{NodeState, NodeAnswer, with_node_intakes}
-use Rattle.dm_node.proofs.NodeMoving.{unlike, free_of}
 use Rattle.dm_node.proofs.NodeStaying.{none_holds}
+use Rattle.dm_node.proofs.Taking.{told_cases}
 
 none_of : (o : Option Intake) → is_some o ≡ false → o ≡ None
 none_of None e = refl
@@ -48,24 +48,17 @@ started n c s o t asks e is told =
 -- behind its end nobody holds a connection
 gone_told : GoneIsUnheld → (c : Conn) (ps qs : List (Option Peer)) (i : ℕ) (actions : List Action) → AreKept ps →
     AreApart ps → holds_at ps c i ≡ true → PeerIsTold ps qs i (Gone c) actions → IsFree qs c
-gone_told gone c ps qs i actions kept apart is told j = by (nat_eq j i) refl where
-  free : (j ≡ i → ⊥) → (b : Bool) → holds_at ps c j ≡ b → b ≡ false
-  free un true held = absurd (un (apart.one j i c held is))
-  free un false held = refl
-
-  by : (b : Bool) → nat_eq j i ≡ b → holds_at qs c j ≡ false
-  by true same =
-      ap (holds_it c) (ap (peer_at qs) (eqb-true j i same) ∙ told.is)
-      ∙ gone told.before told.after actions c (kept i told.before told.was) told.acts
-  by false other =
-      ap (holds_it c) (told.others j (unlike j i other)) ∙ free (unlike j i other) (holds_at ps c j) refl
+gone_told gone c ps qs i actions kept apart is told j =
+    told_cases (λ o. holds_it c o ≡ false) ps qs i j (Gone c) actions told
+    (λ s. gone told.before told.after actions c (kept i told.before told.was) told.acts)
+    (λ un. false_from_ne_true (holds_at ps c j) (λ held. un (apart.one j i c held is)))
 
 gone_moved : GoneIsUnheld → (c : Conn) (n : Node) (ps qs : List (Option Peer)) (who : Option ℕ)
     (actions : List Action) → AreKept ps → AreApart ps → NodeIsTold no_strangers (event.Gone c) n ps who actions qs →
     IsFree qs c
 gone_moved gone c n ps qs (Some i) actions kept apart m = gone_told gone c ps qs i actions kept apart m.0 m.1
 gone_moved gone c n ps qs None actions kept apart m =
-    subst (λ l. IsFree l c) (sym m.2) (λ j. free_of (holds_at ps c j) (m.0 j))
+    subst (λ l. IsFree l c) (sym m.2) (λ j. false_from_ne_true (holds_at ps c j) (m.0 j))
 
 pub gone_free : GoneIsUnheld → (c : Conn) (s t : NodeState) (asks : Option NodeAnswer) → AreKept s.peers →
     AreApart s.peers → AllHeldAreThere s.peers s.intakes → NodeTellsIfThere c (event.Gone c) s asks t →

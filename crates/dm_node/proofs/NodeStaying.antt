@@ -1,6 +1,7 @@
 -- Each connection that a neighbour holds is there, whatever is done.
-use Rattle.std.proofs.Common.{◌≡◌, ℕ, Bool, true, false, true≢false, cond, nat_eq, is_some, Option, None, Some, Result, Ok, Err, OnOk, OnErr, List, refl, sym, ap, ◌∙◌, subst}
-use Rattle.std.proofs.lemmas.Bool.{eqb-true}
+use Rattle.std.proofs.Common.{◌≡◌, ℕ, Bool, true, false, true≢false, cond, nat_eq, is_some, Option, None, Some, Result, Ok, Err, OnOk, OnErr, List, sym, ap, ◌∙◌, subst}
+use Rattle.std.proofs.lemmas.Bool.{eqb-true, cond_both, false_from_ne_true}
+use Rattle.std.specs.Option.{option_map}
 use Rattle.dm_machine.specs.declared.connection.Conn.{Conn}
 use Rattle.dm_machine.specs.declared.state_name.State.{State}
 use Rattle.dm_machine.specs.Moves.{is_open}
@@ -8,9 +9,9 @@ use Rattle.dm_node.specs.Holding.{holds_at, holds_it}
 use Rattle.dm_node.specs.Telling.{IsFree}
 use Rattle.dm_peer.specs.declared.actions.Action.{Action}
 use Rattle.dm_peer.specs.declared.peer.Peer.{Peer}
-use Rattle.dm_slots.specs.Intakes.{Intake, Intakes, is_there, opened, taken_down, changed, with_intake, actions_close, left_by}
-use Rattle.dm_slots.specs.Intakes.{raised_at}
-use Rattle.dm_slots.specs.Raised.{own_of}
+use Rattle.dm_slots.specs.Intakes.{Intake, Intakes, is_there, is_conn_number, opened, taken_down, changed, with_intake}
+use Rattle.dm_slots.specs.Intakes.{actions_close, left_by, raised_at, with_max}
+use Rattle.dm_slots.specs.Raised.{own_of, other_of}
 use Rattle.dm_peer.specs.Events.{PeerEvent, Arrived, Start}
 use Rattle.dm_slots.specs.Naming.{NamesThere, NamesAtMost}
 use Rattle.dm_slots.specs.Staying.{OpeningKeeps, ChangingKeeps, TellingKeeps, RaisingKeeps, ClosingKeeps, ShuttingKeeps}
@@ -51,10 +52,10 @@ pub held_left : ClosingKeeps → RaisingKeeps → (ps : List (Option Peer)) (act
     (p : Option Peer) (f : Intakes) → AllHeldAreThere ps f →
     ((c : Conn) → actions_close actions c.0 ≡ true → IsFree ps c) → AllHeldAreThere ps (raised_for most p (left_by actions f))
 held_left closing raising ps actions most p f there free i c held =
-    raised_there raising most p (left_by actions f) c.0 (by (actions_close actions c.0) refl) where
-      by : (b : Bool) → actions_close actions c.0 ≡ b → is_there c.0 (left_by actions f) ≡ true
-      by true e = absurd (two_truths (holds_at ps c i) held (free c e i))
-      by false e = ap is_some (closing actions c.0 f e) ∙ there i c held
+    raised_there raising most p (left_by actions f) c.0 (ap is_some (closing actions c.0 f unclosed) ∙ there i c held)
+  where
+    unclosed : actions_close actions c.0 ≡ false
+    unclosed = false_from_ne_true (actions_close actions c.0) (λ e. two_truths (holds_at ps c i) held (free c e i))
 
 -- what a neighbour holds is there
 pub concerned_there : (ps : List (Option Peer)) (f : Intakes) (who : Option ℕ) (c : Conn) → AllHeldAreThere ps f →
@@ -73,13 +74,25 @@ raised_so (Some p) state own other is most f stood at first second =
     ∙ ap (λ a. cond (is_open p.standing.core.state) (raised_at most other (raised_at most a f)) f) first
     ∙ ap (λ b. cond (is_open p.standing.core.state) (raised_at most b (raised_at most (own_of p) f)) f) second
 
+-- what holds of an intake whatever its maximum is holds of it where some are raised
+module _ (P : Option Intake → Type 0) (most d : ℕ) (whatever : (o : Option Intake) → P o →
+    P (option_map (with_max most) o)) where
+  raised_at_keeps : (conn : Option Conn) (f : Intakes) → P (f d) → P (raised_at most conn f d)
+  raised_at_keeps conn f is =
+      cond_both (is_conn_number d conn) (option_map (with_max most) (f d)) (f d) P (λ e. whatever (f d) is) (λ e. is)
+
+  pub raised_keeps : (p : Option Peer) (f : Intakes) → P (f d) → P (raised_for most p f d)
+  raised_keeps None f is = is
+  raised_keeps (Some p) f is =
+      cond_both (is_open p.standing.core.state) (raised_at most (other_of p) (raised_at most (own_of p) f)) f
+      (λ g. P (g d)) (λ e. raised_at_keeps (other_of p) (raised_at most (own_of p) f) (raised_at_keeps (own_of p) f is))
+      (λ e. is)
+
 -- a connection that isn't there isn't held
 pub none_holds : (ps : List (Option Peer)) (f : Intakes) (c : Conn) → AllHeldAreThere ps f → is_there c.0 f ≡ false →
     IsFree ps c
-none_holds ps f c there none i = by (holds_at ps c i) refl where
-  by : (b : Bool) → holds_at ps c i ≡ b → b ≡ false
-  by true held = absurd (two_truths (is_there c.0 f) (there i c held) none)
-  by false held = refl
+none_holds ps f c there none i =
+    false_from_ne_true (holds_at ps c i) (λ held. two_truths (is_there c.0 f) (there i c held) none)
 
 -- an event that names no connection but one that is there
 pub names_there : (e : PeerEvent) (c : Conn) (f : Intakes) → NamesAtMost e c → is_there c.0 f ≡ true → NamesThere e f

@@ -1,13 +1,12 @@
 -- One event of a node: what is held behind it, what it closes, and why it is refused.
-use Rattle.std.proofs.Common.{◌≡◌, inl, inr, ◌⊎◌, ℕ, true, true≢false, Option, None, Some, IsSome, IsTrue, List, refl, sym, ap, ◌∙◌, subst}
+use Rattle.std.proofs.Common.{◌≡◌, inl, inr, ◌⊎◌, ℕ, true, true≢false, Option, None, Some, IsTrue, List, refl, sym, ap, ◌∙◌, subst}
 use Rattle.dm_base.specs.declared.node.Node.{Node}
 use Rattle.dm_machine.specs.declared.connection.Conn.{Conn}
-use Rattle.dm_node.specs.Calling.{caller_of}
 use Rattle.dm_node.specs.Declining.{IsDeclinedHere}
 use Rattle.dm_node.specs.Holding.{AreApart}
 use Rattle.dm_node.specs.Policies.{Policy}
 use Rattle.dm_node.specs.Strangers.{NodeMoves, TellsConcerned, NodeIsTold}
-use Rattle.dm_node.specs.Telling.{Concerns, IsAddressed, IsFree, IsMisdirected, IsRefusedBy, IsRefusedHere, IsStrangeCer, told_of}
+use Rattle.dm_node.specs.Telling.{Concerns, IsFree, IsRefusedBy, IsRefusedHere, told_of}
 use Rattle.dm_node.specs.declared.events.NodeEvent.{NodeEvent}
 use Rattle.dm_node.specs.declared.events.NodeEvent.TheVariants as event
 use Rattle.dm_node.specs.declared.fault.OrderFault.{OrderFault}
@@ -39,14 +38,7 @@ OctetsOrNone policy e n ps who actions qs =
 pub by_event : (policy : Policy) (e : NodeEvent) (n : Node) (ps qs : List (Option Peer)) (who : Option ℕ)
     (actions : List Action) → NodeIsTold policy e n ps who actions qs → OctetsOrNone policy e n ps who actions qs
 by_event policy (event.Arrived c octets) n ps qs who actions h = inl (c, octets.now, refl, h)
-by_event policy (event.Start m d) n ps qs who actions h = inr (λ c came. cc came.1, h)
-by_event policy (event.Stop m cause) n ps qs who actions h = inr (λ c came. cc came.1, h)
-by_event policy (event.Timeout m) n ps qs who actions h = inr (λ c came. cc came.1, h)
-by_event policy (event.Tick m) n ps qs who actions h = inr (λ c came. cc came.1, h)
-by_event policy (event.Submit m octets) n ps qs who actions h = inr (λ c came. cc came.1, h)
-by_event policy (event.Ack d) n ps qs who actions h = inr (λ c came. cc came.1, h)
-by_event policy (event.Nack d) n ps qs who actions h = inr (λ c came. cc came.1, h)
-by_event policy (event.Gone d) n ps qs who actions h = inr (λ c came. cc came.1, h)
+by_event policy e n ps qs who actions h = inr (λ c came. cc came.1, h)
 
 -- what is held behind it is there
 held_plain : OthersStayUnheld → (policy : Policy) (e : NodeEvent) (ps qs : List (Option Peer)) (who : Option ℕ)
@@ -106,24 +98,12 @@ wanted : RefusesByRule → (p : Peer) (c : Conn) (s : List ℕ) (f : PeerFault) 
 wanted rule p c s f kept (inl wants) = wants.1
 wanted rule p c s f kept (inr is) = absurd (cc (sym (ap fault_at is) ∙ rule p (Arrived c s) kept.settled.shaped))
 
-memory_at : RefusesByRule → (policy : Policy) (ps : List (Option Peer)) (c : Conn) (octets : List ℕ) (e : NodeEvent)
-    (f : OrderFault) → AreKept ps → told_of e ≡ Arrived c octets →
-    ((i : ℕ) → Concerns policy ps e i → IsAddressed policy ps c octets i) →
-    ((i : ℕ) → IsAddressed policy ps c octets i → Concerns policy ps e i) →
-    (IsStrangeCer e → IsSome (caller_of octets)) → ((g : OrderFault) → IsMisdirected ps e g → ⊥) →
-    IsRefusedHere policy ps e f → TakesMemoryAt policy c octets ps
-memory_at rule policy ps c octets e (fault.Peer f) kept is there back cer none (inl (i, at, h)) =
-    inl (
-      i,
-      h.peer,
-      there i at,
-      h.at,
-      wanted rule h.peer c octets f (kept i h.peer h.at) (subst (λ x. IsRefused (acts h.peer x) f) is h.refused),
-    )
-memory_at rule policy ps c octets e (fault.Peer f) kept is there back cer none (inr h) =
-    inr (λ i at. h.1 i (back i at), cer h.2)
-memory_at rule policy ps c octets e fault.NoNeighbour kept is there back cer none h =
-    absurd (none fault.NoNeighbour h)
+memory_at : RefusesByRule → (policy : Policy) (ps : List (Option Peer)) (c : Conn) (octets : _) (f : OrderFault) →
+    AreKept ps → IsRefusedHere policy ps (event.Arrived c octets) f → TakesMemoryAt policy c octets.now ps
+memory_at rule policy ps c octets (fault.Peer f) kept (inl (i, at, h)) =
+    inl (i, h.peer, at, h.at, wanted rule h.peer c octets.now f (kept i h.peer h.at) h.refused)
+memory_at rule policy ps c octets (fault.Peer f) kept (inr h) = inr (h.1, h.2)
+memory_at rule policy ps c octets fault.NoNeighbour kept h = absurd h
 
 abbrev memory_on : Policy → List (Option Peer) → PeerEvent → Type 0
 memory_on policy ps (Arrived c s) = TakesMemoryAt policy c s ps
@@ -133,14 +113,5 @@ pub memory : RefusesByRule → (policy : Policy) (ps : List (Option Peer)) (c : 
     (f : OrderFault) → AreKept ps → told_of e ≡ Arrived c octets → IsRefusedHere policy ps e f →
     TakesMemoryAt policy c octets ps
 memory rule policy ps c octets (event.Arrived d piece) f kept is h =
-    subst (memory_on policy ps) is
-    (memory_at rule policy ps d piece.now (event.Arrived d piece) f kept refl (λ i x. x) (λ i x. x) (λ x. x) (λ g x. x)
-    h)
-memory rule policy ps c octets (event.Start m d) f kept is h = absurd (cc is)
-memory rule policy ps c octets (event.Stop m cause) f kept is h = absurd (cc is)
-memory rule policy ps c octets (event.Timeout m) f kept is h = absurd (cc is)
-memory rule policy ps c octets (event.Tick m) f kept is h = absurd (cc is)
-memory rule policy ps c octets (event.Submit m piece) f kept is h = absurd (cc is)
-memory rule policy ps c octets (event.Ack d) f kept is h = absurd (cc is)
-memory rule policy ps c octets (event.Nack d) f kept is h = absurd (cc is)
-memory rule policy ps c octets (event.Gone d) f kept is h = absurd (cc is)
+    subst (memory_on policy ps) is (memory_at rule policy ps d piece f kept h)
+memory rule policy ps c octets e f kept is h = absurd (cc is)

@@ -1,11 +1,10 @@
 -- Octets on a node's connection come to one thing.
-use Rattle.std.proofs.Common.{◌≡◌, inl, inr, ℕ, suc, Bool, true, false, nat_eq, Option, None, Some, List, [], ◌∷◌, length, refl, sym, ap, ◌∙◌, subst}
-use Rattle.std.proofs.lemmas.Bool.{eqb-true}
+use Rattle.std.proofs.Common.{◌≡◌, inl, inr, ℕ, Option, None, Some, List, sym, ap, ◌∙◌, subst}
+use Rattle.std.proofs.Math.ListN.{set}
 use Rattle.dm_base.specs.declared.node.Node.{Node}
 use Rattle.dm_history.specs.History.{new_peer}
 use Rattle.dm_machine.specs.declared.connection.Conn.{Conn}
 use Rattle.dm_node.specs.Adding.{with_new}
-use Rattle.dm_node.specs.Holding.{peer_at}
 use Rattle.dm_node.specs.Neighbourhoods.{IsNeighbourhood}
 use Rattle.dm_node.specs.Policies.{Policy}
 use Rattle.dm_node.specs.Strangers.{IsPermitted, Joins, NodeMoves}
@@ -20,17 +19,7 @@ use Rattle.dm_node.proofs.Basics.{one_some}
 use Rattle.dm_node.proofs.Concerned.{one_addressed}
 use Rattle.dm_node.proofs.Configured.{one_permitted, permitted_or_not}
 use Rattle.dm_node.proofs.Newcomers.{OutOrTurnedOff, joined}
-use Rattle.dm_node.proofs.NodeMoving.{unlike}
-
--- neighbours that are the same one by one are the same
-each_same : (qs rs : List (Option Peer)) → length qs ≡ length rs → ((j : ℕ) → peer_at qs j ≡ peer_at rs j) → qs ≡ rs
-each_same [] [] count same = refl
-each_same [] (r ∷ rs) count same = absurd (cc count)
-each_same (q ∷ qs) [] count same = absurd (cc count)
-each_same (q ∷ qs) (r ∷ rs) count same =
-    let first : q ≡ r = same 0 in
-    let rest : length qs ≡ length rs = cc count in
-    ap (λ x. x ∷ qs) first ∙ ap (λ l. r ∷ l) (each_same qs rs rest (λ j. same (suc j)))
+use Rattle.dm_node.proofs.Taking.{told_set}
 
 same_actions : (a b : List Action) (p q : Peer) → Moved a p ≡ Moved b q → a ≡ b
 same_actions a b p q e = cc
@@ -45,14 +34,8 @@ told_once ps qs rs i e a b h k =
     let moved : Moved a h.after ≡ Moved b k.after = sym h.acts ∙ ap (λ p. acts p e) before ∙ k.acts in
     let after : h.after ≡ k.after = same_after a b h.after k.after moved in (
       same_actions a b h.after k.after moved,
-      each_same qs rs (h.count ∙ sym k.count) (λ j. at after j (nat_eq j i) refl),
+      told_set ps qs i e a h ∙ ap (λ p. set ps i (Some p)) after ∙ sym (told_set ps rs i e b k),
     )
-  where
-    at : h.after ≡ k.after → (j : ℕ) (b : Bool) → nat_eq j i ≡ b → peer_at qs j ≡ peer_at rs j
-    at after j true same =
-        ap (peer_at qs) (eqb-true j i same) ∙ h.is ∙ ap Some after ∙ sym k.is
-        ∙ sym (ap (peer_at rs) (eqb-true j i same))
-    at after j false other = h.others j (unlike j i other) ∙ sym (k.others j (unlike j i other))
 
 -- what a new peer of a configuration does
 acted_as : (k l : Config) (c : Conn) (octets : List ℕ) (a : List Action) (q : Peer) → k ≡ l →

@@ -1,5 +1,6 @@
 -- A node of one neighbour is its peer.
 use Rattle.std.proofs.Common.{◌≡◌, inl, inr, ◌⊎◌, ℕ, zero, suc, false, Option, None, Some, List, [], ◌∷◌, length, refl, sym, ap, ◌∙◌, subst}
+use Rattle.std.proofs.lemmas.Bool.{false_from_ne_true}
 use Rattle.dm_machine.specs.declared.connection.Conn.{Conn}
 use Rattle.dm_base.specs.declared.node.Node.{Node}
 use Rattle.dm_node.specs.declared.events.NodeEvent.{NodeEvent}
@@ -18,7 +19,6 @@ use Rattle.dm_peer.specs.Settled.{IsSettled}
 use Rattle.dm_node.specs.NodeLaws.{AreSoundNeighbours, DoesAsItsPeer, TurnsAsItsPeer, OneDoesAsItsPeer}
 use Rattle.dm_node.specs.NodeStates.{NodeState, NodeAnswer, NodeTellsOctets, NodeTellsAs, node_settled}
 use Rattle.dm_node.proofs.Basics.{one_some}
-use Rattle.dm_node.proofs.NodeMoving.{free_of}
 use Rattle.dm_node.proofs.NodeTold.{by_event}
 use Rattle.dm_node.proofs.Unheld.{ack_rests, nack_rests, gone_rests}
 
@@ -65,15 +65,11 @@ tells_alone e p s t answer qs k alone is left = (
 rests_alone : (e : NodeEvent) (p : Peer) → IsSettled p →
     ((c : Conn) (octets : List ℕ) → told_of e ≡ Arrived c octets → ⊥) →
     ((i : ℕ) → Concerns no_strangers (Some p ∷ []) e i → ⊥) → acts p (told_of e) ≡ Moved [] p
-rests_alone (event.Start n c) p was none nobody = absurd (nobody n refl)
-rests_alone (event.Stop n cause) p was none nobody = absurd (nobody n refl)
-rests_alone (event.Timeout n) p was none nobody = absurd (nobody n refl)
-rests_alone (event.Tick n) p was none nobody = absurd (nobody n refl)
-rests_alone (event.Submit n octets) p was none nobody = absurd (nobody n refl)
-rests_alone (event.Ack c) p was none nobody = ack_rests p c was (free_of (holds c p) (λ held. nobody 0 held))
-rests_alone (event.Nack c) p was none nobody = nack_rests p c was (free_of (holds c p) (λ held. nobody 0 held))
-rests_alone (event.Gone c) p was none nobody = gone_rests p c was (free_of (holds c p) (λ held. nobody 0 held))
+rests_alone (event.Ack c) p was none nobody = ack_rests p c was (false_from_ne_true (holds c p) (nobody 0))
+rests_alone (event.Nack c) p was none nobody = nack_rests p c was (false_from_ne_true (holds c p) (nobody 0))
+rests_alone (event.Gone c) p was none nobody = gone_rests p c was (false_from_ne_true (holds c p) (nobody 0))
 rests_alone (event.Arrived c octets) p was none nobody = absurd (none c octets.now refl)
+rests_alone e p was none nobody = absurd (nobody _ refl)
 
 abbrev DoesOrRests : NodeEvent → Peer → NodeState → NodeAnswer → NodeState → Type 0
 DoesOrRests e p s answer t =
@@ -123,34 +119,31 @@ porter_is_told p c octets nobody =
     nobody 0 (inr (free, inr (not_called p octets (λ call. nobody 0 (inr (free, inl call))), (refl, refl))))
   where
     free : IsFree (Some p ∷ []) c
-    free = free_first p c (free_of (holds c p) (λ held. nobody 0 (inl held)))
+    free = free_first p c (false_from_ne_true (holds c p) (λ held. nobody 0 (inl held)))
 
 none_taken : (ps : List (Option Peer)) (c : Conn) (octets : List ℕ) (k : Config) →
     IsPermitted told_the_first ps c octets k → ⊥
 none_taken ps c octets k h =
     let never : ◌≡◌ {A = Option Config} None (Some h.made.template) = h.made.chosen in absurd (cc)
 
-first_alone : (c : Conn) (octets : List ℕ) (n : Node) (p : Peer) (ps qs : List (Option Peer)) (who : Option ℕ)
-    (actions : List Action) → ps ≡ Some p ∷ [] → NodeMoves told_the_first c octets n ps who actions qs →
-    (k : ℕ) × (who ≡ Some k) × MovesAlone p (Arrived c octets) actions k qs
-first_alone c octets n p ps qs (Some k) actions one (inl m) =
-    (k, refl, told_alone (Arrived c octets) p ps qs k actions one m.1)
-first_alone c octets n p ps qs (Some k) actions one (inr (config, permitted, joins)) =
+first_is_told : (c : Conn) (octets : List ℕ) (n : Node) (p : Peer) (ps qs : List (Option Peer)) (who : Option ℕ)
+    (actions : List Action) → ps ≡ Some p ∷ [] → NodeMoves told_the_first c octets n ps who actions qs → who ≡ Some 0
+first_is_told c octets n p ps qs (Some k) actions one (inl m) =
+    ap Some (told_alone (Arrived c octets) p ps qs k actions one m.1).first
+first_is_told c octets n p ps qs (Some k) actions one (inr (config, permitted, joins)) =
     absurd (none_taken ps c octets config permitted)
-first_alone c octets n p ps qs None actions one m =
+first_is_told c octets n p ps qs None actions one m =
     absurd (porter_is_told p c octets
     (λ i at. m.0 i (subst (λ l. IsAddressed told_the_first l c octets i) (sym one) at)))
 
-first_told : (c : Conn) (octets : List ℕ) (p : Peer) (s t : NodeState) (answer : NodeAnswer) →
-    s.peers ≡ Some p ∷ [] → NodeTellsOctets told_the_first c octets s answer t →
-    (answer.neighbour ≡ Some 0) × DoesAsItsPeer (Arrived c octets) p s answer.actions t
-first_told c octets p s t answer one tells =
-    let alone = first_alone c octets s.node p s.peers tells.peers answer.neighbour answer.actions one tells.moved in (
-      alone.1 ∙ ap Some alone.2.first,
-      tells_alone (Arrived c octets) p s t answer tells.peers alone.0 alone.2 alone.1 tells.left,
-    )
+first_turns : (arrived : Option Conn) (c : Conn) (p : Peer) (s t : NodeState) (answer : NodeAnswer) →
+    s.peers ≡ Some p ∷ [] → NodeTellsAs told_the_first arrived c s answer t → answer.neighbour ≡ Some 0
+first_turns None c p s t answer one h =
+    first_is_told c [] s.node p s.peers h.told.peers answer.neighbour answer.actions one h.told.moved
+first_turns (Some d) c p s t answer one h =
+    first_is_told c h.1.message s.node p s.peers h.1.told.peers answer.neighbour answer.actions one h.1.told.moved
 
--- and so do octets that concern it by any policy
+-- and octets that concern it do so by any policy
 concerned_alone : (policy : Policy) (c : Conn) (octets : List ℕ) (n : Node) (p : Peer) (ps qs : List (Option Peer))
     (who : Option ℕ) (actions : List Action) → ps ≡ Some p ∷ [] → NodeMoves policy c octets n ps who actions qs →
     who ≡ Some 0 → (k : ℕ) × (who ≡ Some k) × MovesAlone p (Arrived c octets) actions k qs
@@ -169,28 +162,6 @@ concerned_told policy c octets p s t answer one tells is =
     tells_alone (Arrived c octets) p s t answer tells.peers alone.0 alone.2 alone.1 tells.left
 
 -- a turn is one of the peer where its octets are told so
-pub first_turns_as_its_peer : (arrived : Option Conn) (c : Conn) (p : Peer) (s t : NodeState) (answer : NodeAnswer) →
-    s.peers ≡ Some p ∷ [] → NodeTellsAs told_the_first arrived c s answer t →
-    (answer.neighbour ≡ Some 0) × TurnsAsItsPeer arrived c p s answer.actions t
-first_turns_as_its_peer None c p s t answer one h =
-    let both = first_told c [] p _ t answer one h.told in
-    (both.0, record { intake = h.intake; there = h.there; faulty = h.faulty; told = both.1 })
-first_turns_as_its_peer (Some d) c p s t answer one h =
-    let both = first_told c h.1.message p _ t answer one h.1.told in (
-      both.0,
-      (
-        h.0,
-        record {
-          intake = h.1.intake;
-          message = h.1.message;
-          rest = h.1.rest;
-          there = h.1.there;
-          first = h.1.first;
-          told = both.1;
-        },
-      ),
-    )
-
 pub concerned_turns_as_its_peer : (policy : Policy) (arrived : Option Conn) (c : Conn) (p : Peer) (s t : NodeState)
     (answer : NodeAnswer) → s.peers ≡ Some p ∷ [] → NodeTellsAs policy arrived c s answer t →
     answer.neighbour ≡ Some 0 → TurnsAsItsPeer arrived c p s answer.actions t
@@ -209,3 +180,10 @@ concerned_turns_as_its_peer policy (Some d) c p s t answer one h is =
         told = told;
       },
     )
+
+pub first_turns_as_its_peer : (arrived : Option Conn) (c : Conn) (p : Peer) (s t : NodeState) (answer : NodeAnswer) →
+    s.peers ≡ Some p ∷ [] → NodeTellsAs told_the_first arrived c s answer t →
+    (answer.neighbour ≡ Some 0) × TurnsAsItsPeer arrived c p s answer.actions t
+first_turns_as_its_peer arrived c p s t answer one h =
+    let is = first_turns arrived c p s t answer one h in
+    (is, concerned_turns_as_its_peer told_the_first arrived c p s t answer one h is)

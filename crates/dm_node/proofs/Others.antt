@@ -1,13 +1,13 @@
 -- What happens on one neighbour's connections leaves the others alone.
 use Rattle.std.proofs.Common.{◌≡◌, inl, inr, ℕ, Bool, true, false, cond, nat_eq, ◌==◌, true≢false, Option, None, Some, List, [], ◌∷◌, refl, sym, ap, ◌∙◌, subst}
-use Rattle.std.proofs.lemmas.Bool.{eqb-true}
+use Rattle.std.proofs.lemmas.Bool.{cond-false, false_from_ne_true}
 use Rattle.std.specs.Option.{option_map}
 use Rattle.dm_base.specs.declared.node.Node.{Node}
 use Rattle.dm_machine.specs.declared.connection.Conn.{Conn}
 use Rattle.dm_machine.specs.declared.phase.Role.{Role}
 use Rattle.dm_machine.specs.declared.phase.Role.TheVariants.{Initiated, Accepted}
 use Rattle.dm_machine.specs.declared.state_name.State.{State}
-use Rattle.dm_machine.specs.declared.state_name.State.TheVariants.{Closed, WaitConnAck, WaitICea, WaitConnAckElect, WaitReturns, ROpen, IOpen, Closing}
+use Rattle.dm_machine.specs.declared.state_name.State.TheVariants.{ROpen, IOpen}
 use Rattle.dm_machine.specs.Connection.{hold_as, hold_in}
 use Rattle.dm_machine.specs.Moves.{is_open}
 use Rattle.dm_machine.specs.Node.{is_same_role, held_as}
@@ -27,24 +27,15 @@ use Rattle.dm_node.specs.NodeStates.{NodeState, NodeAnswer, NodeTells, NodeTells
 use Rattle.dm_node.proofs.Closing.{ClosesItsOwn}
 use Rattle.dm_node.proofs.Newcomers.{PeerLaws, peers_stay, else_at, closed_octets}
 use Rattle.dm_node.proofs.Basics.{two_truths}
+use Rattle.dm_node.proofs.NodeStaying.{by_number}
 use Rattle.dm_node.proofs.NodeTold.{by_event, closed_moved}
 
 -- a connection in a role is held
 pub as_is_held : (s : State) (role : Role) → is_held (hold_as s role) ≡ true
 as_is_held ROpen role = refl
 as_is_held IOpen role = refl
-as_is_held Closing Initiated = refl
-as_is_held Closing Accepted = refl
-as_is_held WaitConnAck Initiated = refl
-as_is_held WaitConnAck Accepted = refl
-as_is_held WaitConnAckElect Initiated = refl
-as_is_held WaitConnAckElect Accepted = refl
-as_is_held Closed Initiated = refl
-as_is_held Closed Accepted = refl
-as_is_held WaitICea Initiated = refl
-as_is_held WaitICea Accepted = refl
-as_is_held WaitReturns Initiated = refl
-as_is_held WaitReturns Accepted = refl
+as_is_held s Initiated = refl
+as_is_held s Accepted = refl
 
 in_role : (s : State) (role : Role) (held : List (Role × Conn)) (c : Conn) →
     is_conn_number c.0 (held_as role held) ≡ true → is_held (hold_in s held c) ≡ true
@@ -64,15 +55,12 @@ in_role s role (p ∷ ps) c e =
 
 not_numbered : (role : Role) (p : Peer) (c : Conn) → holds c p ≡ false →
     is_conn_number c.0 (held_as role p.standing.core.held) ≡ false
-not_numbered role p c free = by (is_conn_number c.0 (held_as role p.standing.core.held)) refl
-  where
-    by : (b : Bool) → is_conn_number c.0 (held_as role p.standing.core.held) ≡ b → b ≡ false
-    by true e =
-        absurd (two_truths (holds c p) (in_role p.standing.core.state role p.standing.core.held c e) free)
-    by false e = refl
+not_numbered role p c free =
+    false_from_ne_true (is_conn_number c.0 (held_as role p.standing.core.held)) (λ e.
+    two_truths (holds c p) (in_role p.standing.core.state role p.standing.core.held c e) free)
 
 raised_else : (most : ℕ) (o : Option Conn) (f : Intakes) (d : ℕ) → is_conn_number d o ≡ false → raised_at most o f d ≡ f d
-raised_else most o f d e = ap (λ b. cond b (option_map (with_max most) (f d)) (f d)) e
+raised_else most o f d e = cond-false (is_conn_number d o) (option_map (with_max most) (f d)) (f d) e
 
 raised_elsewhere : (most : ℕ) (p : Option Peer) (f : Intakes) (c : Conn) → holds_it c p ≡ false →
     raised_for most p f c.0 ≡ f c.0
@@ -112,19 +100,13 @@ same_peer policy e n ps qs who actions j m un =
 not_his : (qs : List (Option Peer)) (who : Option ℕ) (j : ℕ) (c : Conn) → AreApart qs → (who ≡ Some j → ⊥) →
     holds_at qs c j ≡ true → holds_it c (concerned_in qs who) ≡ false
 not_his qs None j c apart un held = refl
-not_his qs (Some i) j c apart un held = by (holds_at qs c i) refl
-  where
-    by : (b : Bool) → holds_at qs c i ≡ b → b ≡ false
-    by true own = absurd (un (ap Some (apart.one i j c own held)))
-    by false other = refl
+not_his qs (Some i) j c apart un held =
+    false_from_ne_true (holds_at qs c i) (λ own. un (ap Some (apart.one i j c own held)))
 
 not_closed : (actions : List Action) (qs : List (Option Peer)) (j : ℕ) (c : Conn) →
     (actions_close actions c.0 ≡ true → holds_at qs c j ≡ false) → holds_at qs c j ≡ true → actions_close actions c.0 ≡ false
-not_closed actions qs j c free held = by (actions_close actions c.0) refl
-  where
-    by : (b : Bool) → actions_close actions c.0 ≡ b → b ≡ false
-    by true e = absurd (two_truths (holds_at qs c j) held (free e))
-    by false e = refl
+not_closed actions qs j c free held =
+    false_from_ne_true (actions_close actions c.0) (λ e. two_truths (holds_at qs c j) held (free e))
 
 -- what is settled leaves alone whoever stays
 settled_leaves : ClosingKeeps → (s t : NodeState) (answer : NodeAnswer) (qs : List (Option Peer)) (j : ℕ) →
@@ -165,11 +147,8 @@ holder_is_told policy n ps qs (Some i) actions j c octets apart (inr (k, permitt
 holder_is_told policy n ps qs None actions j c octets apart m un held = m.0 j (inl held)
 
 elsewhere : (c d : Conn) (i : Intake) (f : Intakes) → (d ≡ c → ⊥) → with_intake c.0 (Some i) f d.0 ≡ f d.0
-elsewhere c d i f un = by (nat_eq c.0 d.0) refl
-  where
-    by : (b : Bool) → nat_eq c.0 d.0 ≡ b → cond b (Some i) (f d.0) ≡ f d.0
-    by true e = absurd (un (sym (ap (λ n. record { 0 = n }) (eqb-true c.0 d.0 e))))
-    by false e = refl
+elsewhere c d i f un =
+    cond-false (nat_eq c.0 d.0) (Some i) (f d.0) (false_from_ne_true (nat_eq c.0 d.0) (λ e. un (by_number c d e)))
 
 -- what was taken of one connection is nothing of another
 taken_elsewhere : (c : Conn) (i : Intake) (s t : NodeState) (j : ℕ) → (holds_at s.peers c j ≡ true → ⊥) →

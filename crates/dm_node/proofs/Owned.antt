@@ -1,5 +1,6 @@
 -- Whose the connections are after one neighbour changed.
-use Rattle.std.proofs.Common.{◌≡◌, ℕ, Bool, true, false, ◌||◌, ◌==◌, cond, if◌then◌else◌, List, [], ◌∷◌, ◌++◌, Option, None, Some, IsSome, IfSome, IfNone, refl, sym, ap, subst, ◌∙◌, inl, inr, arith}
+use Rattle.std.proofs.Common.{◌≡◌, ℕ, Bool, true, false, ◌||◌, cond, if◌then◌else◌, List, [], ◌∷◌, ◌++◌, Option, None, Some, IsSome, IfSome, IfNone, refl, sym, ap, subst, ◌∙◌, inl, inr}
+use Rattle.std.proofs.lemmas.Bool.{cases_eq, eq-eqb, false_from_ne_true, or_left, or_right}
 use Rattle.dm_machine.specs.declared.connection.Conn.{Conn}
 use Rattle.dm_peer.specs.After.{fresh_standing}
 use Rattle.dm_peer.specs.declared.peer.Peer.{Peer}
@@ -13,8 +14,7 @@ use Rattle.dm_node.specs.Owning.{has, owned_after, AreOwned, IsResettled, IsReow
 use Rattle.dm_node.specs.Telling.{IsFree}
 use Rattle.dm_node.proofs.Growing.{still}
 use Rattle.dm_node.proofs.Places.{kept_at}
-use Rattle.dm_node.proofs.Basics.{two_truths}
-use Rattle.dm_node.proofs.Taking.{same_or}
+use Rattle.dm_node.proofs.Basics.{one_some, no_some, two_truths}
 
 there_it : (c : Conn) (o : Option Peer) → holds_it c o ≡ true → IsSome o
 there_it c None h = cc
@@ -35,21 +35,12 @@ pub owner_holds : (ps : List (Option Peer)) (f : Owners) (c : Conn) (r : Option 
 owner_holds ps f c None is owned = tt
 owner_holds ps f c (Some i) is owned = owned.holds c i (sym is)
 
-pub same_some : {a b : ℕ} → Some a ≡ Some b → a ≡ b
-same_some {a} {b} e = grind arith
-
-none_some : {a : ℕ} → None ≡ Some a → ⊥
-none_some e = cc
-
-not_held : (b : Bool) → (b ≡ true → ⊥) → b ≡ false
-not_held true never = absurd (never refl)
-not_held false never = refl
-
 -- and where there is none nobody does
 pub unowned_free : (ps : List (Option Peer)) (f : Owners) (c : Conn) (r : Option ℕ) → r ≡ f c.0 → AreOwned f ps →
     IfNone r ((j : ℕ) → holds_at ps c j ≡ false)
 unowned_free ps f c (Some i) is owned = tt
-unowned_free ps f c None is owned = λ j. not_held (holds_at ps c j) (λ held. none_some (is ∙ owned.owned c j held))
+unowned_free ps f c None is owned = λ j.
+    false_from_ne_true (holds_at ps c j) (λ held. no_some _ (is ∙ owned.owned c j held))
 
 module _ (ps qs : List (Option Peer)) (i : ℕ) (before after : Holding) (f : Owners) (apart : AreApart qs)
     (settled : IsResettled ps qs i before) (holds : (c : Conn) → has after c ≡ holds_at qs c i) (owned : AreOwned f ps)
@@ -57,11 +48,11 @@ module _ (ps qs : List (Option Peer)) (i : ℕ) (before after : Holding) (f : Ow
   -- the owner is the holder
   found_holds : (h b : Bool) → has after c ≡ h → has before c ≡ b
       → (if h then Some i else (if b then None else f c.0)) ≡ Some j → holds_at qs c j ≡ true
-  found_holds true b p q e = subst (λ n. holds_at qs c n ≡ true) (same_some e) (sym (holds c) ∙ p)
-  found_holds false true p q e = absurd (none_some e)
+  found_holds true b p q e = subst (λ n. holds_at qs c n ≡ true) (one_some _ _ e) (sym (holds c) ∙ p)
+  found_holds false true p q e = no_some _ e
   found_holds false false p q e =
       let held : holds_at ps c j ≡ true = owned.holds c j e in
-      elim (same_or j i) [
+      elim (cases_eq j i) [
         | inl s ↦ absurd (two_truths (has before c)
             (settled.held c ∙ subst (λ n. holds_at ps c n ≡ true) s held) q)
         | inr un ↦ subst (λ x. holds_it c x ≡ true) (sym (settled.others j un)) held
@@ -78,7 +69,7 @@ module _ (ps qs : List (Option Peer)) (i : ℕ) (before after : Holding) (f : Ow
   there_owned un held true b p q = absurd (un (apart.one j i c held (sym (holds c) ∙ p)))
   there_owned un held false true p q =
       let was : holds_at ps c j ≡ true = subst (λ x. holds_it c x ≡ true) (settled.others j un) held in
-      absurd (un (same_some (sym (owned.owned c j was) ∙ owned.owned c i (sym (settled.held c) ∙ q))))
+      absurd (un (one_some _ _ (sym (owned.owned c j was) ∙ owned.owned c i (sym (settled.held c) ∙ q))))
   there_owned un held false false p q =
       owned.owned c j (subst (λ x. holds_it c x ≡ true) (settled.others j un) held)
 
@@ -86,7 +77,7 @@ module _ (ps qs : List (Option Peer)) (i : ℕ) (before after : Holding) (f : Ow
   held_owned : holds_at qs c j ≡ true → (h b : Bool) → has after c ≡ h → has before c ≡ b
       → (if h then Some i else (if b then None else f c.0)) ≡ Some j
   held_owned held h b p q =
-      elim (same_or j i) [
+      elim (cases_eq j i) [
         | inl s ↦ here_owned s held h p _
         | inr un ↦ there_owned un held h b p q
       ]
@@ -137,18 +128,13 @@ emptied ps qs i before f g apart settled free owned is =
 pub none_owned : (ps : List (Option Peer)) (f : Owners) → ((c : Conn) (i : ℕ) → holds_at ps c i ≡ false) →
     ((c : ℕ) → f c ≡ None) → AreOwned f ps
 none_owned ps f free none = record {
-  holds = λ c i e. absurd (none_some (sym (none c.0) ∙ e));
+  holds = λ c i e. no_some _ (sym (none c.0) ∙ e);
   owned = λ c i held. absurd (two_truths (holds_at ps c i) held (free c i));
 }
 
 -- what nobody holds goes
-kept_else : (d c : Conn) (b : Bool) (i : ℕ) (o : Option ℕ) → o ≡ Some i → b ≡ false →
-    (if b then None else o) ≡ Some i
-kept_else d c true i o is un = absurd (two_truths true refl un)
-kept_else d c false i o is un = is
-
 was_else : (b : Bool) (i : ℕ) (o : Option ℕ) → (if b then None else o) ≡ Some i → o ≡ Some i
-was_else true i o e = absurd (none_some e)
+was_else true i o e = no_some _ e
 was_else false i o e = e
 
 pub owned_less : (ps : List (Option Peer)) (f g : Owners) (goes : ℕ → Bool) → AreOwned f ps →
@@ -177,23 +163,16 @@ on_is : (o : Option Conn) (c : Conn) → is_conn_number c.0 o ≡ is_on o c
 on_is None c = refl
 on_is (Some d) c = refl
 
-is_it : (c : Conn) → (c.0 == c.0) ≡ true
-is_it c = grind arith
-
 pub has_accepted : (held : Holding) (c : Conn) → held.accepted ≡ Some c → has held c ≡ true
 has_accepted held c is =
-    ap (λ o. is_on held.initiated c || is_on o c) is ∙ ap (λ b. is_on held.initiated c || b) (is_it c)
-    ∙ or_true (is_on held.initiated c)
-  where
-    or_true : (b : Bool) → (b || true) ≡ true
-    or_true true = refl
-    or_true false = refl
+    or_right (is_on held.initiated c) (is_on held.accepted c) (ap (λ o. is_on o c) is ∙ eq-eqb c.0 c.0 refl)
 
 pub has_initiated : (held : Holding) (c : Conn) → held.initiated ≡ Some c → has held c ≡ true
 has_initiated held c is =
-    ap (λ o. is_on o c || is_on held.accepted c) is ∙ ap (λ b. b || is_on held.accepted c) (is_it c)
+    or_left (is_on held.initiated c) (is_on held.accepted c) (ap (λ o. is_on o c) is ∙ eq-eqb c.0 c.0 refl)
 
-pub two : (bi ba : Bool) (x : Option ℕ) → cond ba None (cond bi None x) ≡ (if bi || ba then None else x)
+-- what is gone where it is the one or the other
+pub two : {A : Type 0} (bi ba : Bool) (x : Option A) → cond ba None (cond bi None x) ≡ (if bi || ba then None else x)
 two true true x = refl
 two true false x = refl
 two false true x = refl

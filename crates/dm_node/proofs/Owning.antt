@@ -1,5 +1,5 @@
 -- Each connection is its holder's, whatever is done.
-use Rattle.std.proofs.Common.{◌≡◌, ℕ, true, false, nat_eq, cond, Option, None, Some, List, Result, Ok, Err, OnOk, OnErr, refl, sym, ap, ◌∙◌, subst, inl, inr}
+use Rattle.std.proofs.Common.{◌≡◌, ℕ, true, false, nat_eq, cond, Option, None, Some, List, Result, Ok, Err, OnOk, OnErr, refl, sym, ap, ◌∙◌, subst}
 use Rattle.std.proofs.Math.ListN.{set}
 use Rattle.dm_machine.specs.declared.connection.Conn.{Conn}
 use Rattle.dm_peer.specs.declared.actions.Action.{Action}
@@ -14,8 +14,7 @@ use Rattle.dm_node.specs.Telling.{IsFree}
 use Rattle.dm_node.specs.declared.owners.Holding.{Holding}
 use Rattle.dm_node.proofs.NodeStaying.{by_number}
 use Rattle.dm_node.proofs.Owned.{owned_grown, owned_less, emptied}
-use Rattle.dm_node.proofs.Places.{set_or_none}
-use Rattle.dm_node.proofs.Rostered.{apart_set, resettled}
+use Rattle.dm_node.proofs.Rostered.{apart_set, resettled, set_free}
 
 -- owners that stay
 pub owned_same : (ps : List (Option Peer)) (f g : Owners) → g ≡ f → AreOwned f ps → AreOwned g ps
@@ -41,14 +40,6 @@ owned_added (Ok v) ps qs k f ok err owned = subst (AreOwned f) (sym ok) (owned_g
 owned_added (Err e) ps qs k f ok err owned = subst (AreOwned f) (sym err) owned
 
 -- nor does one that is gone, or was set back
-set_free : (ps : List (Option Peer)) (i : ℕ) (y : Option Peer) (c : Conn) → holds_it c y ≡ false →
-    holds_at (set ps i y) c i ≡ false
-set_free ps i y c free =
-    elim (set_or_none ps i y) [
-      | inl here ↦ ap (holds_it c) here ∙ free
-      | inr none ↦ ap (holds_it c) none
-    ]
-
 pub owned_set : (ps qs : List (Option Peer)) (i : ℕ) (y : Option Peer) (before : Holding) (f g : Owners) →
     qs ≡ set ps i y → ((c : Conn) → holds_it c y ≡ false) → AreApart ps → ((c : Conn) → has before c ≡ holds_at ps c i) →
     ((c : Conn) → g c.0 ≡ cond (has before c) None (f c.0)) → AreOwned f ps → AreOwned g qs

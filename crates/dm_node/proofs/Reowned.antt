@@ -14,11 +14,10 @@ use Rattle.dm_node.specs.Strangers.{Joins, NodeMoves, NodeIsTold}
 use Rattle.dm_node.specs.Telling.{Concerns, IsAddressed, IsStrangeCer}
 use Rattle.dm_node.specs.declared.events.NodeEvent.{NodeEvent}
 use Rattle.dm_node.specs.declared.owners.Holding.{Holding}
-use Rattle.dm_history.specs.History.{new_peer}
 use Rattle.dm_node.proofs.Concerned.{one_is_concerned}
-use Rattle.dm_node.proofs.Newcomers.{peers_stay}
+use Rattle.dm_node.proofs.Newcomers.{peers_stay, else_at}
 use Rattle.dm_node.proofs.NodeKnowing.{told_event, untold_event}
-use Rattle.dm_node.proofs.Places.{grown, nobody_behind}
+use Rattle.dm_node.proofs.Places.{nobody_behind}
 
 -- what was looked at is what whom an event concerns holds, and nothing where it concerns nobody
 pub record IsHoldingOf (concerns : ℕ → Type 0) (ps : List (Option Peer)) (held : Holding) : Type 0 where
@@ -40,16 +39,10 @@ held_looked policy ps e (Some k) held apart concerned nobody is = record {
 joined : (ps qs : List (Option Peer)) (i : ℕ) (c : Conn) (octets : List ℕ) (actions : List Action) (config : Config)
     (held : Holding) → ((d : Conn) → has held d ≡ false) → Joins ps qs i c octets actions config →
     IsResettled ps qs i held
-joined ps qs i c octets actions config held free joins = record { held = none; others = others } where
-  none : (d : Conn) → has held d ≡ holds_at ps d i
-  none d = free d ∙ sym (ap (holds_it d) (ap (peer_at ps) joins.number ∙ nobody_behind ps))
-
-  others : (j : ℕ) → (j ≡ i → ⊥) → peer_at qs j ≡ peer_at ps j
-  others j un =
-      elim (grown ps (Some (new_peer config config.first_id)) j) [
-        | inl same ↦ joins.told.others j un ∙ same
-        | inr last ↦ absurd (un (last.0 ∙ sym joins.number))
-      ]
+joined ps qs i c octets actions config held free joins = record {
+  held = λ d. free d ∙ sym (ap (holds_it d) (ap (peer_at ps) joins.number ∙ nobody_behind ps));
+  others = λ j un. else_at ps qs i j c octets actions config joins un;
+}
 
 pub reowned_moved : (policy : Policy) (c : Conn) (octets : List ℕ) (n : Node) (ps qs : List (Option Peer))
     (who : Option ℕ) (actions : List Action) (held : Holding) → IsHoldingOf (IsAddressed policy ps c octets) ps held →

@@ -1,6 +1,7 @@
 -- What keeps a roster.
 use Rattle.std.proofs.Common.{◌≡◌, ℕ, zero, suc, true, false, List, [], ◌∷◌, ◌++◌, option_map, Option, None, Some, IfSome, refl, sym, ap, subst, ◌∙◌, inl, inr}
 use Rattle.std.proofs.Math.ListN.{set}
+use Rattle.std.proofs.lemmas.Bool.{cases_eq}
 use Rattle.dm_machine.specs.declared.connection.Conn.{Conn}
 use Rattle.dm_peer.specs.declared.peer.Peer.{Peer}
 use Rattle.dm_peer.specs.Kept.{IsKept}
@@ -11,9 +12,8 @@ use Rattle.dm_node.specs.Holding.{peer_at, holds_it, holds_at, host_of, host_at,
 use Rattle.dm_node.specs.NodeHeld.{AreKept}
 use Rattle.dm_node.specs.Owning.{has, IsResettled}
 use Rattle.dm_node.specs.declared.owners.Holding.{Holding}
-use Rattle.dm_node.proofs.Basics.{no_some, two_truths}
-use Rattle.dm_node.proofs.Places.{grown, set_at, set_or_none, set_else}
-use Rattle.dm_node.proofs.Taking.{same_or}
+use Rattle.dm_node.proofs.Basics.{one_some, no_some, two_truths}
+use Rattle.dm_node.proofs.Places.{set_cases, set_or_none, set_else, grown_cases}
 
 -- fewer are held
 pub apart_less : (ps qs : List (Option Peer)) →
@@ -37,31 +37,23 @@ back_host (Some p) = refl
 -- a place where nobody holds anything is put in
 pub less_set : (ps : List (Option Peer)) (i : ℕ) (y : Option Peer) → ((c : Conn) → holds_it c y ≡ false) →
     (j : ℕ) (c : Conn) → holds_at (set ps i y) c j ≡ true → holds_at ps c j ≡ true
-less_set ps i y free j c h =
-    elim (same_or j i) [
-      | inl s ↦ elim (set_at ps i y) [
-        | inl a ↦ absurd (two_truths (holds_it c y) (subst (λ o. holds_it c o ≡ true) a
-            (subst (λ n. holds_at (set ps i y) c n ≡ true) s h)) (free c))
-        | inr b ↦ subst (λ n. holds_at ps c n ≡ true) (sym s) (subst (λ o. holds_it c o ≡ true) b
-            (subst (λ n. holds_at (set ps i y) c n ≡ true) s h))
-      ]
-      | inr un ↦ subst (λ o. holds_it c o ≡ true) (set_else ps i j y un) h
-    ]
+less_set ps i y free j c =
+    set_cases (λ o. holds_it c o ≡ true → holds_at ps c j ≡ true) ps i j y
+    (λ s held. absurd (two_truths (holds_it c y) held (free c))) (λ held. held)
 
 -- a place whose host is the same, or none, is put in
 pub host_set : (ps : List (Option Peer)) (i : ℕ) (y : Option Peer) →
     ((h : List ℕ) → host_of y ≡ Some h → host_at ps i ≡ Some h) →
     (j : ℕ) (h : List ℕ) → host_at (set ps i y) j ≡ Some h → host_at ps j ≡ Some h
-host_set ps i y fewer j h e =
-    elim (same_or j i) [
-      | inl s ↦ elim (set_at ps i y) [
-        | inl a ↦ subst (λ n. host_at ps n ≡ Some h) (sym s) (fewer h (subst (λ o. host_of o ≡ Some h) a
-            (subst (λ n. host_at (set ps i y) n ≡ Some h) s e)))
-        | inr b ↦ subst (λ n. host_at ps n ≡ Some h) (sym s) (subst (λ o. host_of o ≡ Some h) b
-            (subst (λ n. host_at (set ps i y) n ≡ Some h) s e))
-      ]
-      | inr un ↦ subst (λ o. host_of o ≡ Some h) (set_else ps i j y un) e
-    ]
+host_set ps i y fewer j h =
+    set_cases (λ o. host_of o ≡ Some h → host_at ps j ≡ Some h) ps i j y
+    (λ s e. ap (host_at ps) s ∙ fewer h e) (λ e. e)
+
+-- nobody holds anything there then
+pub set_free : (ps : List (Option Peer)) (i : ℕ) (y : Option Peer) (c : Conn) → holds_it c y ≡ false →
+    holds_at (set ps i y) c i ≡ false
+set_free ps i y c free =
+    elim (set_or_none ps i y) [ inl here ↦ ap (holds_it c) here ∙ free | inr none ↦ ap (holds_it c) none ]
 
 pub none_free : (c : Conn) → holds_it c None ≡ false
 none_free c = refl
@@ -107,38 +99,34 @@ unlike_all ps qs is unlike =
     subst AreUnlike (sym is) (unlike_less ps (all_set_back ps)
     (λ j h e. sym (back_host (peer_at ps j)) ∙ sym (ap host_of (each_back ps j)) ∙ e) unlike)
 
+-- what holds of each holds of each where one more is put behind them, or one in a place
+abbrev pub IsEach : (Peer → Type 0) → List (Option Peer) → Type 0
+IsEach P ps = (i : ℕ) (p : Peer) → peer_at ps i ≡ Some p → P p
+
+pub each_grown : (P : Peer → Type 0) (ps : List (Option Peer)) (y : Peer) → P y → IsEach P ps →
+    IsEach P (ps ++ Some y ∷ [])
+each_grown P ps y here each j =
+    grown_cases (λ o. (p : Peer) → o ≡ Some p → P p) ps (Some y) j (λ last p at. subst P (one_some y p at) here) (each j)
+
+pub each_set : (P : Peer → Type 0) (ps : List (Option Peer)) (i : ℕ) (y : Option Peer) →
+    ((p : Peer) → y ≡ Some p → P p) → IsEach P ps → IsEach P (set ps i y)
+each_set P ps i y here each j = set_cases (λ o. (p : Peer) → o ≡ Some p → P p) ps i j y (λ s. here) (each j)
+
 -- each stays what events make of a new peer
 pub kept_set : (ps qs : List (Option Peer)) (i : ℕ) (y : Option Peer) → qs ≡ set ps i y →
     ((p : Peer) → y ≡ Some p → IsKept p) → AreKept ps → AreKept qs
-kept_set ps qs i y is here kept = subst AreKept (sym is) all where
-  at_place : (p : Peer) → peer_at (set ps i y) i ≡ Some p → IsKept p
-  at_place p at =
-      elim (set_or_none ps i y) [
-        | inl a ↦ here p (sym a ∙ at)
-        | inr b ↦ no_some p (sym b ∙ at)
-      ]
-
-  all : AreKept (set ps i y)
-  all j p at =
-      elim (same_or j i) [
-        | inl s ↦ at_place p (subst (λ n. peer_at (set ps i y) n ≡ Some p) s at)
-        | inr un ↦ kept j p (sym (set_else ps i j y un) ∙ at)
-      ]
+kept_set ps qs i y is here kept = subst AreKept (sym is) (each_set IsKept ps i y here kept)
 
 pub none_kept : (p : Peer) → None ≡ Some p → IsKept p
 none_kept p e = no_some p e
 
 pub kept_grown : (ps : List (Option Peer)) (y : Peer) → IsKept y → AreKept ps → AreKept (ps ++ Some y ∷ [])
-kept_grown ps y here kept j p at =
-    elim (grown ps (Some y) j) [
-      | inl same ↦ kept j p (sym same ∙ at)
-      | inr last ↦ subst (λ o. IfSome o IsKept) (sym last.1 ∙ at) here
-    ]
+kept_grown ps y here kept = each_grown IsKept ps y here kept
 
 pub kept_told : (ps qs : List (Option Peer)) (i : ℕ) (q : Peer) → peer_at qs i ≡ Some q → IsKept q →
     ((j : ℕ) → (j ≡ i → ⊥) → peer_at qs j ≡ peer_at ps j) → AreKept ps → AreKept qs
 kept_told ps qs i q here is others kept j p at =
-    elim (same_or j i) [
+    elim (cases_eq j i) [
       | inl s ↦ subst (λ o. IfSome o IsKept) (sym here ∙ subst (λ n. peer_at qs n ≡ Some p) s at) is
       | inr un ↦ kept j p (sym (others j un) ∙ at)
     ]

@@ -1,57 +1,46 @@
 -- A peer takes no connection but the one that its event names.
-use Rattle.std.proofs.Common.{◌≡◌, ℕ, zero, suc, Bool, true, false, not, ◌&&◌, ◌==◌, List, [], Option, Some, IsTrue, Result, Ok, Err, IfOk, IfErr, OnOk, OnErr, refl, sym, ap, subst, ◌∙◌, inl, inr, ◌⊎◌, arith}
+use Rattle.std.proofs.Common.{◌≡◌, ℕ, Bool, true, false, not, ◌&&◌, ◌==◌, List, [], Option, Some, IsSome, IsTrue, Result, Ok, Err, IfOk, IfErr, OnOk, OnErr, refl, sym, ap, subst, ◌∙◌, inl, inr, ◌⊎◌}
 use Rattle.std.proofs.Math.ListN.{set}
+use Rattle.std.proofs.lemmas.Bool.{eqb-true, false_from_ne_true, cases_eq}
 use Rattle.std.proofs.lemmas.List.{length-set}
 use Rattle.dm_base.specs.Before.{lower}
 use Rattle.dm_peer.specs.declared.config.Config.{Config}
 use Rattle.dm_node.proofs.Basics.{two_truths}
-use Rattle.dm_node.proofs.Places.{set_else}
+use Rattle.dm_node.proofs.Places.{set_here, set_else, hosts_set, each_same}
 use Rattle.dm_machine.specs.declared.connection.Conn.{Conn}
-use Rattle.dm_machine.specs.Connection.{Hold, NotHeld, Pending, Made, OpenAsI, ClosingAsI, Taken, OpenAsR, ClosingAsR, Concern, concern_of, if_named, AtConnection}
+use Rattle.dm_machine.specs.Connection.{Hold, NotHeld, Concern, concern_of, if_named, AtConnection}
 use Rattle.dm_machine.specs.Openings.{is_hold, names_it, LeavesOthersAlone}
 use Rattle.dm_machine.specs.Node.{is_shaped}
 use Rattle.dm_machine.specs.Moves as moves
 use Rattle.dm_peer.specs.declared.actions.Action.{Action}
 use Rattle.dm_peer.specs.declared.peer.Peer.{Peer}
 use Rattle.dm_peer.specs.Configs.{wins}
-use Rattle.dm_peer.specs.Events.{PeerEvent, Start, Stop, Timeout, Tick, Ack, Nack, Arrived, Gone, Submit}
+use Rattle.dm_peer.specs.Events.{PeerEvent, Start, Ack, Nack, Arrived, Gone}
 use Rattle.dm_peer.specs.Said.{Heard}
 use Rattle.dm_peer.specs.Acts.{Moved, acts, input_of}
 use Rattle.dm_peer.specs.Steps.{EachEventIsOneStep, Follows, IsStep}
 use Rattle.dm_node.specs.Holding.{peer_at, is_held, holds, holds_it, holds_at, host_of, host_at, AreApart}
 use Rattle.dm_node.specs.Telling.{conn_of, PeerIsTold}
 
-same_number : (a b : ℕ) → (a == b) ≡ true → a ≡ b
-same_number a b h = grind arith
-
-by_number : (d c : Conn) → (b : Bool) → (d.0 == c.0) ≡ b → (Some d ≡ Some c → ⊥) → b ≡ false
-by_number d c true e un = absurd (un (ap (λ n. Some (record { 0 = n })) (same_number d.0 c.0 e)))
-by_number d c false e un = refl
+other_conn : (d c : Conn) → (Some d ≡ Some c → ⊥) → (d.0 == c.0) ≡ false
+other_conn d c un =
+    false_from_ne_true (d.0 == c.0) (λ e. un (ap (λ n. Some (record { 0 = n })) (eqb-true d.0 c.0 e)))
 
 named_if : (k : Concern) (b : Bool) → b ≡ false → names_it (if_named b k) ≡ false
 named_if k b e = rw e refl
 
 not_named : (e : PeerEvent) (h : Option Heard) (c : Conn) → (conn_of e ≡ Some c → ⊥) →
     names_it (concern_of (input_of e h) c) ≡ false
-not_named (Start d) h c un = named_if _ (d.0 == c.0) (by_number d c _ refl un)
-not_named (Stop cause) h c un = refl
-not_named Timeout h c un = refl
-not_named Tick h c un = refl
-not_named (Ack d) h c un = named_if _ (d.0 == c.0) (by_number d c _ refl un)
-not_named (Nack d) h c un = named_if _ (d.0 == c.0) (by_number d c _ refl un)
-not_named (Arrived d s) h c un = named_if _ (d.0 == c.0) (by_number d c _ refl un)
-not_named (Gone d) h c un = named_if _ (d.0 == c.0) (by_number d c _ refl un)
-not_named (Submit s) h c un = refl
+not_named (Start d) h c un = named_if _ (d.0 == c.0) (other_conn d c un)
+not_named (Ack d) h c un = named_if _ (d.0 == c.0) (other_conn d c un)
+not_named (Nack d) h c un = named_if _ (d.0 == c.0) (other_conn d c un)
+not_named (Arrived d s) h c un = named_if _ (d.0 == c.0) (other_conn d c un)
+not_named (Gone d) h c un = named_if _ (d.0 == c.0) (other_conn d c un)
+not_named e h c un = refl
 
 free : (h : Hold) → is_held h ≡ false → is_hold NotHeld h ≡ true
 free NotHeld e = refl
-free Pending e = cc
-free Made e = cc
-free OpenAsI e = cc
-free ClosingAsI e = cc
-free Taken e = cc
-free OpenAsR e = cc
-free ClosingAsR e = cc
+free h e = cc
 
 both : (a b : Bool) → a ≡ true → b ≡ false → IsTrue (a && not b)
 both a b p q = rw (p, q) refl
@@ -69,7 +58,8 @@ at_step alone p q e actions shaped s c free_of not_held =
     (alone p.standing.core (input_of e s.heard) (wins p.config) c shaped) in
     ap is_held (at (both _ _ (free _ not_held) (not_named e s.heard c free_of))).0
 
-stays : EachEventIsOneStep → LeavesOthersAlone → (p q : Peer) (e : PeerEvent) (actions : List Action) →
+-- a peer holds of the connections that it didn't hold at most the one that its event names
+pub stays : EachEventIsOneStep → LeavesOthersAlone → (p q : Peer) (e : PeerEvent) (actions : List Action) →
     IsTrue (is_shaped p.standing.core) → acts p e ≡ Moved actions q → (c : Conn) → (conn_of e ≡ Some c → ⊥) →
     holds c p ≡ false → holds c q ≡ false
 stays step alone p q e actions shaped is c free_of not_held =
@@ -86,35 +76,10 @@ config_kept step p q e actions is =
       | inr d ↦ ap (λ (x : Peer). x.config) d.same
     ]
 
-moved_takes : EachEventIsOneStep → LeavesOthersAlone → (x y : Peer) (e : PeerEvent) →
-    IsTrue (is_shaped x.standing.core) →
-    ((actions : List Action) × (acts x e ≡ Moved actions y)) ⊎ (y ≡ x) → (c : Conn) → (conn_of e ≡ Some c → ⊥) →
-    holds c x ≡ false → holds c y ≡ false
-moved_takes step alone x y e shaped (inl m) c un not_held = stays step alone x y e m.0 shaped m.1 c un not_held
-moved_takes step alone x y e shaped (inr same) c un not_held = subst (λ z. holds c z ≡ false) (sym same) not_held
-
-pub same_or : (a b : ℕ) → (a ≡ b) ⊎ (a ≡ b → ⊥)
-same_or zero zero = inl refl
-same_or zero (suc b) = inr (λ h. omega arith)
-same_or (suc a) zero = inr (λ h. omega arith)
-same_or (suc a) (suc b) = elim (same_or a b) [ inl h ↦ inl (ap suc h) | inr n ↦ inr (λ h. n (omega arith)) ]
-
 else_before : (ps : List (Option Peer)) (i j : ℕ) (y : Peer) (c : Conn) → (j ≡ i → ⊥) →
     holds_at (set ps i (Some y)) c j ≡ true →
     holds_at ps c j ≡ true
 else_before ps i j y c un h = subst (λ o. holds_it c o ≡ true) (set_else ps i j (Some y) un) h
-
--- where the changed one and another hold the connection afterwards
-cross : (ps : List (Option Peer)) (i k : ℕ) (e : PeerEvent) (x y : Peer) (c : Conn) → peer_at ps i ≡ Some x →
-    peer_at (set ps i (Some y)) i ≡ Some y →
-    ((c : Conn) → (conn_of e ≡ Some c → ⊥) → holds c x ≡ false → holds c y ≡ false) →
-    ((j : ℕ) (c : Conn) → conn_of e ≡ Some c → holds_at ps c j ≡ true → j ≡ i) → AreApart ps → (k ≡ i → ⊥) →
-    holds_at (set ps i (Some y)) c i ≡ true → holds_at (set ps i (Some y)) c k ≡ true → (b : Bool) → holds c x ≡ b → ⊥
-cross ps i k e x y c at now takes only apart un here there true was =
-    un (apart.one k i c (else_before ps i k y c un there) (subst (λ o. holds_it c o ≡ true) (sym at) was))
-cross ps i k e x y c at now takes only apart un here there false was =
-    two_truths (holds c y) (subst (λ o. holds_it c o ≡ true) now here)
-    (takes c (λ is. un (only k c is (else_before ps i k y c un there))) was)
 
 -- what an event leaves: a peer of the same configuration, which holds of the connections that it didn't hold at most
 -- the one that is named
@@ -122,19 +87,22 @@ pub record Leaves (e : PeerEvent) (x y : Peer) : Type 0 where
   pub takes : (c : Conn) → (conn_of e ≡ Some c → ⊥) → holds c x ≡ false → holds c y ≡ false
   pub config : y.config ≡ x.config
 
-moved_config : EachEventIsOneStep → (x y : Peer) (e : PeerEvent) →
-    ((actions : List Action) × (acts x e ≡ Moved actions y)) ⊎ (y ≡ x) → y.config ≡ x.config
-moved_config step x y e (inl m) = config_kept step x y e m.0 m.1
-moved_config step x y e (inr same) = ap (λ (z : Peer). z.config) same
-
 pub leaves : EachEventIsOneStep → LeavesOthersAlone → (x y : Peer) (e : PeerEvent) →
     IsTrue (is_shaped x.standing.core) →
     ((actions : List Action) × (acts x e ≡ Moved actions y)) ⊎ (y ≡ x) → Leaves e x y
-leaves step alone x y e shaped moved =
-    record {
-      takes = moved_takes step alone x y e shaped moved;
-      config = moved_config step x y e moved;
-    }
+leaves step alone x y e shaped (inl m) =
+    record { takes = stays step alone x y e m.0 shaped m.1; config = config_kept step x y e m.0 m.1 }
+leaves step alone x y e shaped (inr same) =
+    subst (Leaves e x) (sym same) (record { takes = λ c un unheld. unheld; config = refl })
+
+-- what it holds then no other does
+cross : (ps : List (Option Peer)) (i k : ℕ) (e : PeerEvent) (x y : Peer) (c : Conn) → peer_at ps i ≡ Some x →
+    Leaves e x y → ((j : ℕ) (c : Conn) → conn_of e ≡ Some c → holds_at ps c j ≡ true → j ≡ i) → AreApart ps →
+    (k ≡ i → ⊥) → holds_at ps c k ≡ true → holds c y ≡ true → ⊥
+cross ps i k e x y c at left only apart un there now =
+    two_truths (holds c y) now
+    (left.takes c (λ is. un (only k c is there))
+    (false_from_ne_true (holds c x) (λ was. un (apart.one k i c there (ap (holds_it c) at ∙ was)))))
 
 pub apart_after : (ps : List (Option Peer)) (i : ℕ) (e : PeerEvent) (x y : Peer) → peer_at ps i ≡ Some x →
     peer_at (set ps i (Some y)) i ≡ Some y → Leaves e x y →
@@ -142,31 +110,27 @@ pub apart_after : (ps : List (Option Peer)) (i : ℕ) (e : PeerEvent) (x y : Pee
     AreApart (set ps i (Some y))
 apart_after ps i e x y there now left only apart = record {
   one = λ j k c h g.
-      elim (same_or j i) [
-        | inl a ↦ elim (same_or k i) [
+      elim (cases_eq j i) [
+        | inl a ↦ elim (cases_eq k i) [
           | inl b ↦ a ∙ sym b
-          | inr nb ↦ absurd (cross ps i k e x y c there now left.takes only apart nb
-              (subst (λ n. holds_at (set ps i (Some y)) c n ≡ true) a h) g (holds c x) refl)
+          | inr nb ↦
+              absurd (cross ps i k e x y c there left only apart nb (else_before ps i k y c nb g) (here j c a h))
         ]
-        | inr na ↦ elim (same_or k i) [
-          | inl b ↦ absurd (cross ps i j e x y c there now left.takes only apart na
-              (subst (λ n. holds_at (set ps i (Some y)) c n ≡ true) b g) h (holds c x) refl)
+        | inr na ↦ elim (cases_eq k i) [
+          | inl b ↦
+              absurd (cross ps i j e x y c there left only apart na (else_before ps i j y c na h) (here k c b g))
           | inr nb ↦ apart.one j k c (else_before ps i j y c na h) (else_before ps i k y c nb g)
         ]
       ];
 }
-
-same_host : (ps : List (Option Peer)) (i j : ℕ) (x y : Peer) → peer_at ps i ≡ Some x →
-    peer_at (set ps i (Some y)) i ≡ Some y → y.config ≡ x.config → (j ≡ i) ⊎ (j ≡ i → ⊥) →
-    host_at (set ps i (Some y)) j ≡ host_at ps j
-same_host ps i j x y at now is (inl e) =
-    subst (λ n. host_at (set ps i (Some y)) n ≡ host_at ps n) (sym e)
-    (ap host_of now ∙ ap (λ (c : Config). Some (lower c.peer)) is ∙ sym (ap host_of at))
-same_host ps i j x y at now is (inr un) = ap host_of (set_else ps i j (Some y) un)
+  where
+    here : (j : ℕ) (c : Conn) → j ≡ i → holds_at (set ps i (Some y)) c j ≡ true → holds c y ≡ true
+    here j c s held = sym (ap (holds_it c) (ap (peer_at (set ps i (Some y))) s ∙ now)) ∙ held
 
 pub hosts_after : (ps : List (Option Peer)) (i : ℕ) (e : PeerEvent) (x y : Peer) → peer_at ps i ≡ Some x →
     peer_at (set ps i (Some y)) i ≡ Some y → Leaves e x y → (j : ℕ) → host_at (set ps i (Some y)) j ≡ host_at ps j
-hosts_after ps i e x y there now left j = same_host ps i j x y there now left.config (same_or j i)
+hosts_after ps i e x y there now left =
+    hosts_set ps i (Some y) (ap (λ (k : Config). Some (lower k.peer)) left.config ∙ sym (ap host_of there))
 
 pub is_told : (ps : List (Option Peer)) (i : ℕ) (e : PeerEvent) (x y : Peer) (actions : List Action) →
     peer_at ps i ≡ Some x → peer_at (set ps i (Some y)) i ≡ Some y → acts x e ≡ Moved actions y →
@@ -180,6 +144,26 @@ is_told ps i e x y actions there now is = record {
   others = λ j un. set_else ps i j (Some y) un;
   count = length-set ps i (Some y);
 }
+
+-- what holds of him behind it, and of each other as he was, holds of each
+pub told_cases : (Q : Option Peer → Type 0) (ps qs : List (Option Peer)) (i j : ℕ) (e : PeerEvent)
+    (actions : List Action) (told : PeerIsTold ps qs i e actions) → (j ≡ i → Q (Some told.after)) →
+    ((j ≡ i → ⊥) → Q (peer_at ps j)) → Q (peer_at qs j)
+told_cases Q ps qs i j e actions told here elsewhere =
+    elim (cases_eq j i) [
+      | inl s ↦ subst Q (sym (ap (peer_at qs) s ∙ told.is)) (here s)
+      | inr un ↦ subst Q (sym (told.others j un)) (elsewhere un)
+    ]
+
+-- so he is put in his place, and nobody else is
+pub told_set : (ps qs : List (Option Peer)) (i : ℕ) (e : PeerEvent) (actions : List Action)
+    (told : PeerIsTold ps qs i e actions) → qs ≡ set ps i (Some told.after)
+told_set ps qs i e actions told =
+    let rs = set ps i (Some told.after) in
+    let here : peer_at rs i ≡ Some told.after = set_here ps i (Some told.after) (subst IsSome (sym told.was) refl) in
+    each_same qs rs (told.count ∙ sym (length-set ps i (Some told.after))) (λ j.
+    told_cases (λ o. o ≡ peer_at rs j) ps qs i j e actions told (λ s. sym (ap (peer_at rs) s ∙ here))
+    (λ un. sym (set_else ps i j (Some told.after) un)))
 
 pub if_ok : {A E : Type 0} {P Q : A → Type 0} (r : Result A E) → ((a : A) → P a → Q a) → IfOk r P → IfOk r Q
 if_ok (Ok a) f h = f a h

@@ -4,7 +4,7 @@ use Rattle.dm_machine.specs.declared.connection.Conn.{Conn}
 use Rattle.dm_machine.specs.declared.inputs.Input.{Input}
 use Rattle.dm_machine.specs.declared.phase.Role.{Role}
 use Rattle.dm_machine.specs.declared.state_name.State.{State}
-use Rattle.dm_machine.specs.declared.state_name.State.TheVariants.{Closed, WaitConnAck, WaitICea, WaitConnAckElect, WaitReturns, ROpen, IOpen, Closing}
+use Rattle.dm_machine.specs.declared.state_name.State.TheVariants.{Closed}
 use Rattle.dm_machine.specs.Awaiting.{awaits_cea, awaits_dwa, awaits_dpa, holds_cer, number_after, waiting_after}
 use Rattle.dm_machine.specs.Connection.{hold_as, hold_in}
 use Rattle.dm_machine.specs.Moves.{is_open, machine_outcome, by_table, by_event, raises_win, then_won}
@@ -40,13 +40,7 @@ new_place s (p ∷ ps) c free = by (p.1.0 == c.0) refl (λ rest. new_place s ps 
 -- an input that is no event of the table changes nothing
 no_row : (s : State) → row_in rows s NoEvent ≡ None
 no_row Closed = refl
-no_row WaitConnAck = refl
-no_row WaitICea = refl
-no_row WaitConnAckElect = refl
-no_row WaitReturns = refl
-no_row ROpen = refl
-no_row IOpen = refl
-no_row Closing = refl
+no_row s = refl
 
 without_row : (n : Node) (new : Option Conn) (w : Bool) (found : Option Row) → found ≡ None →
     (if raises_win found w then then_won (by_event found n NoEvent new) else by_event found n NoEvent new)

@@ -1,5 +1,6 @@
 -- A host that is no neighbour becomes one, or is turned away.
-use Rattle.std.proofs.Common.{◌≡◌, ◌≤◌, ◌<◌, inl, inr, ◌⊎◌, ℕ, suc, Bool, true, false, Option, None, Some, IfSome, IfNone, Result, Ok, Err, IfOk, OnOk, List, [], ◌∷◌, ◌++◌, length, refl, sym, ap, subst, ◌∙◌}
+use Rattle.std.proofs.Common.{◌≡◌, ◌≤◌, ◌<◌, inl, inr, ◌⊎◌, ℕ, true, false, Option, None, Some, IfSome, IfNone, Result, Ok, Err, IfOk, OnOk, List, [], ◌∷◌, ◌++◌, length, refl, sym, ap, subst, ◌∙◌}
+use Rattle.std.proofs.lemmas.Bool.{false_from_ne_true}
 use Rattle.dm_base.specs.declared.node.Node.{Node}
 use Rattle.dm_history.specs.History.{new_peer}
 use Rattle.dm_machine.specs.declared.connection.Conn.{Conn}
@@ -20,16 +21,7 @@ use Rattle.dm_node.specs.declared.events.NodeEvent.{NodeEvent}
 use Rattle.dm_node.specs.declared.events.NodeEvent.TheVariants as event
 use Rattle.dm_node.specs.declared.owners.Holding.{Holding}
 use Rattle.dm_node.proofs.Basics.{one_inside, two_truths}
-use Rattle.dm_node.proofs.Places.{grown, grown_here}
-
--- the others behind whom one more is put
-grown_else : (ps : List (Option Peer)) (y : Option Peer) (j : ℕ) → (j ≡ length ps → ⊥) →
-    peer_at (ps ++ y ∷ []) j ≡ peer_at ps j
-grown_else ps y j un = elim (grown ps y j) [ inl same ↦ same | inr last ↦ absurd (un last.0) ]
-
-same_count : (ps : List (Option Peer)) (x y : Option Peer) → length (ps ++ x ∷ []) ≡ length (ps ++ y ∷ [])
-same_count [] x y = refl
-same_count (p ∷ ps) x y = ap suc (same_count ps x y)
+use Rattle.dm_node.proofs.Places.{grown_here, grown_else, grown_cases, longer}
 
 pub is_taken : (ps qs : List (Option Peer)) (i : ℕ) (c : Conn) (octets : List ℕ) (actions : List Action) (k : Config)
     (y : Peer) → i ≡ length ps → qs ≡ ps ++ Some y ∷ [] → (y.standing.core.state ≡ Closed → ⊥) →
@@ -46,49 +38,29 @@ is_taken ps qs i c octets actions k y here is stays acted =
         others = λ j un.
             let else : j ≡ length ps → ⊥ = λ q. un (q ∙ sym here) in
             ap (λ l. peer_at l j) is ∙ grown_else ps (Some y) j else ∙ sym (grown_else ps (Some x) j else);
-        count = ap length is ∙ same_count ps (Some y) (Some x);
+        count = ap length is ∙ longer ps (Some y) ∙ sym (longer ps (Some x));
       };
       stays = stays;
     }
 
--- nobody holds the connection on which an unknown host calls
-pub free_at : (policy : Policy) (ps : List (Option Peer)) (c : Conn) (octets : List ℕ) →
-    ((i : ℕ) → IsAddressed policy ps c octets i → ⊥) → IsFree ps c
-free_at policy ps c octets nobody j = by (holds_at ps c j) refl
-  where
-    by : (b : Bool) → holds_at ps c j ≡ b → holds_at ps c j ≡ false
-    by false q = q
-    by true q = absurd (nobody j (inl q))
-
--- nor a connection that is held behind its octets
+-- nobody holds a connection that is held behind the octets of an unknown host
 pub free_behind : (ps : List (Option Peer)) (c : Conn) (y : Peer) → IsFree ps c →
     ((d : Conn) → (c ≡ d → ⊥) → holds d y ≡ false) →
     (d : Conn) (j : ℕ) → holds d y ≡ true → holds_at ps d j ≡ false
-free_behind ps c y free takes d j held = by (holds_at ps d j) refl
-  where
-    by : (b : Bool) → holds_at ps d j ≡ b → holds_at ps d j ≡ false
-    by false q = q
-    by true q =
-        absurd (two_truths (holds d y) held
-        (takes d (λ same. two_truths (holds_at ps d j) q (subst (λ x. holds_at ps x j ≡ false) same (free j)))))
+free_behind ps c y free takes d j held =
+    false_from_ne_true (holds_at ps d j) (λ q. two_truths (holds d y) held
+    (takes d (λ same. two_truths (holds_at ps d j) q (subst (λ x. holds_at ps x j ≡ false) same (free j)))))
 
 -- one more, of whose connections nobody holds any
 pub apart_admitted : (ps : List (Option Peer)) (y : Peer) →
     ((c : Conn) (j : ℕ) → holds c y ≡ true → holds_at ps c j ≡ false) → AreApart ps → AreApart (ps ++ Some y ∷ [])
 apart_admitted ps y free apart = record {
-  one = λ i j c h g.
-      elim (grown ps (Some y) i) [
-        | inl a ↦ elim (grown ps (Some y) j) [
-          | inl b ↦ apart.one i j c (subst (λ o. holds_it c o ≡ true) a h) (subst (λ o. holds_it c o ≡ true) b g)
-          | inr b ↦ absurd (two_truths (holds_at ps c i) (subst (λ o. holds_it c o ≡ true) a h)
-              (free c i (subst (λ o. holds_it c o ≡ true) b.1 g)))
-        ]
-        | inr a ↦ elim (grown ps (Some y) j) [
-          | inl b ↦ absurd (two_truths (holds_at ps c j) (subst (λ o. holds_it c o ≡ true) b g)
-              (free c j (subst (λ o. holds_it c o ≡ true) a.1 h)))
-          | inr b ↦ a.0 ∙ sym b.0
-        ]
-      ];
+  one = λ i j c.
+      grown_cases (λ o. holds_it c o ≡ true → holds_at (ps ++ Some y ∷ []) c j ≡ true → i ≡ j) ps (Some y) i
+      (λ last h. grown_cases (λ o. holds_it c o ≡ true → i ≡ j) ps (Some y) j (λ also g. last ∙ sym also)
+      (λ g. absurd (two_truths (holds_at ps c j) g (free c j h))))
+      (λ h. grown_cases (λ o. holds_it c o ≡ true → i ≡ j) ps (Some y) j
+      (λ also g. absurd (two_truths (holds_at ps c i) h (free c i g))) (apart.one i j c h));
 }
 
 pub resettled_admitted : (ps qs : List (Option Peer)) (y : Peer) (i : ℕ) (before : Holding) → i ≡ length ps →
@@ -184,44 +156,17 @@ turned_off policy c octets n ps None actions nobody forbidden is answer = (nobod
 turned_off policy c octets n ps (Some i) actions nobody forbidden is answer = absurd (cc)
 
 -- the one that the event concerns is told it
-concerned_told : (policy : Policy) (e : NodeEvent) (ps qs : List (Option Peer)) (i : ℕ) (who : Option ℕ)
-    (actions : List Action) → Concerns policy ps e i → who ≡ Some i → PeerIsTold ps qs i (told_of e) actions →
-    TellsConcerned policy e ps who actions qs
-concerned_told policy e ps qs i who actions concerns is told =
-    subst (λ w. TellsConcerned policy e ps w actions qs) (sym is) (concerns, told)
-
 pub told_so : (policy : Policy) (e : NodeEvent) (n : Node) (ps qs : List (Option Peer)) (i : ℕ) (who : Option ℕ)
     (actions : List Action) → Concerns policy ps e i → who ≡ Some i → PeerIsTold ps qs i (told_of e) actions →
     NodeIsTold policy e n ps who actions qs
 told_so policy (event.Arrived c octets) n ps qs i who actions concerns is told =
     subst (λ w. NodeMoves policy c octets.now n ps w actions qs) (sym is) (inl (concerns, told))
-told_so policy (event.Start m c) n ps qs i who actions concerns is told =
-    concerned_told policy (event.Start m c) ps qs i who actions concerns is told
-told_so policy (event.Stop m cause) n ps qs i who actions concerns is told =
-    concerned_told policy (event.Stop m cause) ps qs i who actions concerns is told
-told_so policy (event.Timeout m) n ps qs i who actions concerns is told =
-    concerned_told policy (event.Timeout m) ps qs i who actions concerns is told
-told_so policy (event.Tick m) n ps qs i who actions concerns is told =
-    concerned_told policy (event.Tick m) ps qs i who actions concerns is told
-told_so policy (event.Submit m octets) n ps qs i who actions concerns is told =
-    concerned_told policy (event.Submit m octets) ps qs i who actions concerns is told
-told_so policy (event.Ack c) n ps qs i who actions concerns is told =
-    concerned_told policy (event.Ack c) ps qs i who actions concerns is told
-told_so policy (event.Nack c) n ps qs i who actions concerns is told =
-    concerned_told policy (event.Nack c) ps qs i who actions concerns is told
-told_so policy (event.Gone c) n ps qs i who actions concerns is told =
-    concerned_told policy (event.Gone c) ps qs i who actions concerns is told
+told_so policy e n ps qs i who actions concerns is told =
+    subst (λ w. TellsConcerned policy e ps w actions qs) (sym is) (concerns, told)
 
 -- an event that is no octets, and concerns nobody
 pub nothing_told : (policy : Policy) (e : NodeEvent) (n : Node) (ps : List (Option Peer)) (actions : List Action) →
     actions ≡ [] → ((c : Conn) (octets : _) → e ≡ event.Arrived c octets → ⊥) →
     ((i : ℕ) → Concerns policy ps e i → ⊥) → NodeIsTold policy e n ps None actions ps
 nothing_told policy (event.Arrived c octets) n ps actions none other nobody = absurd (other c octets refl)
-nothing_told policy (event.Start m c) n ps actions none other nobody = (nobody, none, refl)
-nothing_told policy (event.Stop m cause) n ps actions none other nobody = (nobody, none, refl)
-nothing_told policy (event.Timeout m) n ps actions none other nobody = (nobody, none, refl)
-nothing_told policy (event.Tick m) n ps actions none other nobody = (nobody, none, refl)
-nothing_told policy (event.Submit m octets) n ps actions none other nobody = (nobody, none, refl)
-nothing_told policy (event.Ack c) n ps actions none other nobody = (nobody, none, refl)
-nothing_told policy (event.Nack c) n ps actions none other nobody = (nobody, none, refl)
-nothing_told policy (event.Gone c) n ps actions none other nobody = (nobody, none, refl)
+nothing_told policy e n ps actions none other nobody = (nobody, none, refl)

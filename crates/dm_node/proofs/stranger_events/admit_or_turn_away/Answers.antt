@@ -2,13 +2,14 @@
 use Rattle.std.proofs.Common.{IsSome, refl, sym, subst}
 use Rattle.dm_machine.specs.declared.connection.Conn.{Conn}
 use Rattle.dm_node.specs.Strangers.{IsForbidden}
+use Rattle.dm_node.proofs.Newcomers.{stranger_free}
 use Rattle.dm_node.proofs.Taking.{if_err}
-use Rattle.dm_node.proofs.Welcomed.{PermitsAnywhere, free_at, at_some, at_none, both_ok, welcomed, turned_off}
+use Rattle.dm_node.proofs.Welcomed.{PermitsAnywhere, at_some, at_none, both_ok, welcomed, turned_off}
 use Rattle.dm_node.proofs.stranger_events.admit_or_turn_away.Goals as goal
 
 pub tell_and_add_newcomer-requires : goal.tell_and_add_newcomer-requires
 tell_and_add_newcomer-requires g c =
-    free_at (g.S.Strangers.policy c.args.strangers.now) c.args.neighbours.now c.args.conn c.args.octets.now
+    stranger_free (g.S.Strangers.policy c.args.strangers.now) c.args.neighbours.now c.args.conn c.args.octets.now
     c.requires
 
 pub returns-in-Ok-Some-clause-moved : goal.returns-in-Ok-Some-clause-moved
