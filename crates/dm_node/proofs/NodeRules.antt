@@ -1,7 +1,7 @@
 -- An order goes by the rules of its event.
 use Rattle.std.proofs.Common.{◌≡◌, ◌⊎◌, inl, inr, ℕ, false, cond, Option, None, Some, Result, Ok, Err, IfErr, refl, sym, subst}
 use Rattle.dm_machine.specs.declared.connection.Conn.{Conn}
-use Rattle.dm_node.specs.Declining.{IsRuledOut, IsDirected, IsByRule, IsUnruled, GoesByAllRules}
+use Rattle.dm_node.specs.Declining.{IsRuledOut, IsDirected, IsByRule, GoesByAllRules, refused_with}
 use Rattle.dm_node.specs.NodeOrders.{OrderGoesByRules, start_told}
 use Rattle.dm_node.specs.NodeStates.{NodeState}
 use Rattle.dm_node.specs.Policies.{no_strangers}
@@ -39,9 +39,9 @@ ruled_so (Some e) s (Err f) rules = inr (e, refl, rules.by_rule.ruled)
 
 -- a Start that they allow, where memory is wanted for its connection
 pub unstarted_goes : (A : Type 0) (n : ℕ) (c : Conn) (s : NodeState) → is_there c.0 s.intakes ≡ false →
-    IsUnruled no_strangers s.peers (event.Start n c) →
+    GoesByAllRules no_strangers s.peers (event.Start n c) (refused_with None) →
     OrderGoesByRules {A = A} (start_told n c s) s (Err (fault.Peer NoMemory))
 unstarted_goes A n c s none un =
     let e = event.Start n c in
     subst (λ b. OrderGoesByRules {A = A} (cond b None (Some e)) s (Err (fault.Peer NoMemory))) (sym none)
-    (unruled_goes no_strangers s.peers e un)
+    (unruled_goes no_strangers s.peers e tt un)

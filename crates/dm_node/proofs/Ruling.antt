@@ -1,10 +1,10 @@
 -- What the rules say of an event, whatever memory there is.
-use Rattle.std.proofs.Common.{◌≡◌, inl, inr, ℕ, true, false, Bool, if◌then◌else◌, Option, None, Some, option_map, Result, Ok, Err, IfSome, IfNone, IfErr, IsTrue, List, refl, sym, ap, ◌∙◌, subst}
+use Rattle.std.proofs.Common.{◌≡◌, inl, inr, ℕ, true, false, Bool, if◌then◌else◌, Option, None, Some, option_map, Result, Ok, Err, IfSome, IfErr, IsTrue, List, refl, sym, ap, ◌∙◌, subst}
 use Rattle.dm_machine.specs.declared.connection.Conn.{Conn}
 use Rattle.dm_machine.specs.declared.state_name.State.{State}
 use Rattle.dm_machine.specs.declared.state_name.State.TheVariants as state
 use Rattle.dm_machine.specs.Moves.{is_open}
-use Rattle.dm_node.specs.Declining.{IsRuledOut, IsDirected, IsByRule, IsDeclinedHere, GoesByRule, GoesByAllRules, EventTakesMemory, IsRuleOf, IsUnruled}
+use Rattle.dm_node.specs.Declining.{IsRuledOut, IsDirected, IsByRule, IsDeclinedHere, GoesByRule, GoesByAllRules, EventTakesMemory, refused_with}
 use Rattle.dm_node.specs.Holding.{peer_at}
 use Rattle.dm_node.specs.Neighbourhoods.{IsNeighbourhood}
 use Rattle.dm_node.specs.NodeHeld.{AreKept}
@@ -18,24 +18,18 @@ use Rattle.dm_peer.specs.declared.fault.PeerFault.{PeerFault}
 use Rattle.dm_peer.specs.declared.fault.PeerFault.TheVariants.{NoMemory, NotOpen, BadSubmit}
 use Rattle.dm_peer.specs.declared.peer.Peer.{Peer}
 use Rattle.dm_peer.specs.Acts.{Outcome, Moved, Refused, acts, wants_memory, can_submit, IsRefused}
-use Rattle.dm_peer.specs.Events.{PeerEvent, Start, Stop, Timeout, Tick, Ack, Nack, Arrived, Gone, Submit}
+use Rattle.dm_peer.specs.Events.{PeerEvent, Start, Stop, Submit}
 use Rattle.dm_peer.specs.Kept.{IsKept}
 use Rattle.dm_peer.specs.Refusing.{RefusesByRule, fault_at, refusal_of, start_refusal}
 use Rattle.dm_wire.specs.Whole.{message_in}
 use Rattle.dm_node.proofs.Concerned.{one_there}
-use Rattle.dm_node.proofs.Basics.{not_done, same_fault}
+use Rattle.dm_node.proofs.Declined.{rule_of}
+use Rattle.dm_node.proofs.Basics.{one_some, no_some, not_done, same_fault}
 
 -- a neighbour refuses, or nobody is named: a misdirected event is no neighbour's refusal
 pub never_of_peer : (ps : List (Option Peer)) (e : NodeEvent) (f : PeerFault) → IsMisdirected ps e (fault.Peer f) → ⊥
 never_of_peer ps (event.Start m c) f h = h
-never_of_peer ps (event.Stop m cause) f h = h
-never_of_peer ps (event.Timeout m) f h = h
-never_of_peer ps (event.Tick m) f h = h
-never_of_peer ps (event.Submit m octets) f h = h
-never_of_peer ps (event.Ack c) f h = h
-never_of_peer ps (event.Nack c) f h = h
-never_of_peer ps (event.Arrived c octets) f h = h
-never_of_peer ps (event.Gone c) f h = h
+never_of_peer ps e f h = h
 
 pub misdirected_by_rule : (policy : Policy) (ps : List (Option Peer)) (e : NodeEvent) (f : OrderFault) →
     IsMisdirected ps e f → IsByRule policy ps e f
@@ -50,13 +44,7 @@ misdirected_declined policy ps e fault.NoNeighbour h = h
 -- no rule refuses for want of memory
 starts : (s : State) → start_refusal s ≡ Some NoMemory → ⊥
 starts state.Closed h = absurd (cc h)
-starts state.WaitConnAck h = absurd (cc h)
-starts state.WaitICea h = absurd (cc h)
-starts state.WaitConnAckElect h = absurd (cc h)
-starts state.WaitReturns h = absurd (cc h)
-starts state.ROpen h = absurd (cc h)
-starts state.IOpen h = absurd (cc h)
-starts state.Closing h = absurd (cc h)
+starts s h = absurd (cc h)
 
 opens : (is : Bool) → (if is then None else Some NotOpen) ≡ Some NoMemory → ⊥
 opens true h = absurd (cc h)
@@ -64,19 +52,13 @@ opens false h = absurd (cc h)
 
 submits : (is can : Bool) → (if is then (if can then None else Some BadSubmit) else Some NotOpen) ≡ Some NoMemory → ⊥
 submits true true h = absurd (cc h)
-submits true false h = absurd (cc h)
-submits false can h = absurd (cc h)
+submits is can h = absurd (cc h)
 
 never_of_memory : (s : State) (e : PeerEvent) → refusal_of s e ≡ Some NoMemory → ⊥
 never_of_memory s (Start c) h = starts s h
 never_of_memory s (Stop cause) h = opens (is_open s) h
 never_of_memory s (Submit octets) h = submits (is_open s) (can_submit (message_in octets)) h
-never_of_memory s Timeout h = absurd (cc h)
-never_of_memory s Tick h = absurd (cc h)
-never_of_memory s (Ack c) h = absurd (cc h)
-never_of_memory s (Nack c) h = absurd (cc h)
-never_of_memory s (Arrived c octets) h = absurd (cc h)
-never_of_memory s (Gone c) h = absurd (cc h)
+never_of_memory s e h = absurd (cc h)
 
 -- where memory was wanted some is taken
 wanted : RefusesByRule → (p : Peer) (e : PeerEvent) → IsKept p → IsRefused (acts p e) NoMemory →
@@ -135,71 +117,58 @@ pub directed_goes : {A : Type 0} (policy : Policy) (ps : List (Option Peer)) (e 
 directed_goes policy ps e r directed by =
     record { misdirected = λ f wrong. absurd (directed f wrong); by_rule = by }
 
-pub rule_goes : {A : Type 0} (policy : Policy) (ps : List (Option Peer)) (e : NodeEvent) (f : OrderFault) →
-    IsRuleOf policy ps e f → GoesByAllRules {A = A} policy ps e (Err f)
-rule_goes policy ps e f rule =
-    record {
-      misdirected = λ g wrong. ap Err (rule.misdirected g wrong);
-      by_rule = record {
-        refuses = λ i g directed concerned out. ap Err (rule.refuses i g directed concerned out);
-        ruled = rule.ruled;
-      };
-    }
-
 -- where they don't refuse it memory alone may be wanted
-pub unruled_goes : {A : Type 0} (policy : Policy) (ps : List (Option Peer)) (e : NodeEvent) → IsUnruled policy ps e →
-    GoesByAllRules {A = A} policy ps e (Err (fault.Peer NoMemory))
-unruled_goes policy ps e un =
+pub unruled_goes : {A B : Type 0} (policy : Policy) (ps : List (Option Peer)) (e : NodeEvent) (b : B) →
+    GoesByAllRules policy ps e (Ok b) → GoesByAllRules {A = A} policy ps e (Err (fault.Peer NoMemory))
+unruled_goes policy ps e b rules =
     record {
-      misdirected = λ f wrong. absurd (un.directed f wrong);
+      misdirected = λ f wrong. not_done b f (Ok b) refl (rules.misdirected f wrong);
       by_rule = record {
-        refuses = λ i f directed concerned out. absurd (un.allowed i f concerned out);
+        refuses = λ i f directed concerned out.
+            not_done b (fault.Peer f) (Ok b) refl (rules.by_rule.refuses i f directed concerned out);
         ruled = inl refl;
       };
     }
 
 -- A Start.
 
-pub unstarted : (ps : List (Option Peer)) (n : ℕ) (c : Conn) → peer_at ps n ≡ None →
-    IsRuleOf no_strangers ps (event.Start n c) fault.NoNeighbour
-unstarted ps n c none = record { misdirected = one; refuses = never; ruled = none } where
-  one : (g : OrderFault) → IsMisdirected ps (event.Start n c) g → fault.NoNeighbour ≡ g
-  one fault.NoNeighbour h = refl
-  one (fault.Peer f) h = absurd h
-
-  never : (i : ℕ) (g : PeerFault) → IsDirected ps (event.Start n c) → Concerns no_strangers ps (event.Start n c) i →
-      IsRuledOut ps i (Start c) g → fault.NoNeighbour ≡ fault.Peer g
-  never i g directed is out = absurd (directed fault.NoNeighbour none)
+pub nobody_goes : {A : Type 0} (ps : List (Option Peer)) (n : ℕ) (c : Conn) → peer_at ps n ≡ None →
+    GoesByAllRules {A = A} no_strangers ps (event.Start n c) (Err fault.NoNeighbour)
+nobody_goes ps n c none = misdirected_goes no_strangers ps (event.Start n c) fault.NoNeighbour none one
+  where
+    one : (g : OrderFault) → IsMisdirected ps (event.Start n c) g → fault.NoNeighbour ≡ g
+    one fault.NoNeighbour h = refl
+    one (fault.Peer f) h = absurd h
 
 module _ (ps : List (Option Peer)) (n : ℕ) (c : Conn) (p : Peer) (at : peer_at ps n ≡ Some p) where
   directed : IsDirected ps (event.Start n c)
-  directed fault.NoNeighbour none = let clash : None ≡ Some p = sym none ∙ at in absurd (cc clash)
+  directed fault.NoNeighbour none = no_some p (sym none ∙ at)
   directed (fault.Peer f) h = h
-
-  same_peer : (q : Peer) → Some q ≡ Some p → q ≡ p
-  same_peer q e = cc
 
   rule_at : (i : ℕ) (g : PeerFault) → n ≡ i → IsRuledOut ps i (Start c) g →
       start_refusal p.standing.core.state ≡ Some g
-  rule_at i g is out =
-      subst (λ (q : Peer). start_refusal q.standing.core.state ≡ Some g)
-      (same_peer out.peer (sym out.at ∙ ap (peer_at ps) (sym is) ∙ at)) out.rule
+  rule_at i g is out = rule_of ps n p at (Start c) g (subst (λ j. IsRuledOut ps j (Start c) g) (sym is) out)
 
-  some_fault : (f g : PeerFault) → Some f ≡ Some g → f ≡ g
-  some_fault f g e = cc
+  ruled_at : (o : Option PeerFault) → start_refusal p.standing.core.state ≡ o →
+      IfErr (refused_with (option_map fault.Peer o)) (IsByRule no_strangers ps (event.Start n c))
+  ruled_at None is = tt
+  ruled_at (Some f) is = inr (n, refl, record { peer = p; at = at; rule = is })
 
-  pub start_ruled : (f : PeerFault) → start_refusal p.standing.core.state ≡ Some f →
-      IsRuleOf no_strangers ps (event.Start n c) (fault.Peer f)
-  start_ruled f is =
+  pub start_goes : GoesByAllRules no_strangers ps (event.Start n c)
+      (refused_with (option_map fault.Peer (start_refusal p.standing.core.state)))
+  start_goes =
       record {
         misdirected = λ g wrong. absurd (directed g wrong);
-        refuses = λ i g straight concerned out. ap fault.Peer (some_fault f g (sym is ∙ rule_at i g concerned out));
-        ruled = inr (n, refl, record { peer = p; at = at; rule = is });
+        by_rule = record {
+          refuses = λ i g straight concerned out.
+              ap (λ o. refused_with (option_map fault.Peer o)) (rule_at i g concerned out);
+          ruled = ruled_at (start_refusal p.standing.core.state) refl;
+        };
       }
 
   refused_of : (o : Outcome) (f : PeerFault) → fault_at o ≡ Some f → o ≡ Refused f
   refused_of (Moved actions q) f e = absurd (cc e)
-  refused_of (Refused g) f e = ap Refused (some_fault g f e)
+  refused_of (Refused g) f e = ap Refused (one_some g f e)
 
   pub start_declined : RefusesByRule → IsKept p → (f : PeerFault) → start_refusal p.standing.core.state ≡ Some f →
       IsDeclinedHere no_strangers ps (event.Start n c) (fault.Peer f)
@@ -213,24 +182,11 @@ module _ (ps : List (Option Peer)) (n : ℕ) (c : Conn) (p : Peer) (at : peer_at
     },
   )
 
-  pub start_allowed : start_refusal p.standing.core.state ≡ None → IsUnruled no_strangers ps (event.Start n c)
-  start_allowed is =
-      record {
-        directed = directed;
-        allowed = λ i f concerned out.
-            let clash : None ≡ Some f = sym is ∙ rule_at i f concerned out in absurd (cc clash);
-      }
-
 -- what holds of each fault of a neighbour's rules
 pub each_fault : (P : OrderFault → Type 0) (r : Option OrderFault) (o : Option PeerFault) → r ≡ option_map fault.Peer o →
     ((f : PeerFault) → o ≡ Some f → P (fault.Peer f)) → IfSome r P
 each_fault P r None is all = subst (λ x. IfSome x P) (sym is) tt
 each_fault P r (Some f) is all = subst (λ x. IfSome x P) (sym is) (all f refl)
-
-pub no_fault : (P : Type 0) (r : Option OrderFault) (o : Option PeerFault) → r ≡ option_map fault.Peer o →
-    (o ≡ None → P) → IfNone r P
-no_fault P r None is allowed = subst (λ x. IfNone x P) (sym is) (allowed refl)
-no_fault P r (Some f) is allowed = subst (λ x. IfNone x P) (sym is) tt
 
 -- Rules that a call handed on keeps.
 

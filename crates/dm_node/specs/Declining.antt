@@ -1,5 +1,5 @@
 -- When the neighbour that an event concerns refuses it, and when memory is wanted for it (RFC 6733, 5.6).
-use Rattle.std.specs.Prelude.{◌≡◌, ◌⊎◌, ℕ, Option, Some, Result, Err, IfErr, IsTrue, List}
+use Rattle.std.specs.Prelude.{◌≡◌, ◌⊎◌, ℕ, Option, None, Some, Result, Ok, Err, IfErr, IsTrue, List, ⊤}
 use Rattle.dm_peer.specs.Acts.{Refused, acts, wants_memory}
 use Rattle.dm_peer.specs.declared.fault.PeerFault.{PeerFault}
 use Rattle.dm_peer.specs.declared.fault.PeerFault.TheVariants.{NoMemory}
@@ -59,14 +59,7 @@ abbrev pub EventTakesMemory : Policy → List (Option Peer) → NodeEvent → Ty
 EventTakesMemory policy ps e =
     (i : ℕ) × (p : Peer) × Concerns policy ps e i × (peer_at ps i ≡ Some p) × IsTrue (wants_memory (acts p (told_of e)))
 
--- this is the fault with which the rules refuse the event
-pub record IsRuleOf (policy : Policy) (ps : List (Option Peer)) (e : NodeEvent) (f : OrderFault) : Type 0 where
-  pub misdirected : (g : OrderFault) → IsMisdirected ps e g → f ≡ g
-  pub refuses : (i : ℕ) (g : PeerFault) → IsDirected ps e → Concerns policy ps e i → IsRuledOut ps i (told_of e) g
-      → f ≡ fault.Peer g
-  pub ruled : IsByRule policy ps e f
-
--- they don't refuse it
-pub record IsUnruled (policy : Policy) (ps : List (Option Peer)) (e : NodeEvent) : Type 0 where
-  pub directed : IsDirected ps e
-  pub allowed : (i : ℕ) (f : PeerFault) → Concerns policy ps e i → IsRuledOut ps i (told_of e) f → ⊥
+-- what an event comes to that is refused with a fault, if there is one
+abbrev pub refused_with : Option OrderFault → Result ⊤ OrderFault
+refused_with None = Ok tt
+refused_with (Some f) = Err f

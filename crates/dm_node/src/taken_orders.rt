@@ -1,7 +1,7 @@
 //! Orders that a node takes, and what each comes to.
-ghost use Rattle.std.specs.Prelude.{◌≡◌, ◌⊎◌, ℕ, [], Some, Err, All, false, IfErr, IfSome, IfNone, OnOk, OnErr};
-ghost use Rattle.dm_node.specs.Declining.{IsDeclinedHere, IsRuledOut, IsDirected, IsByRule, IsRuleOf, IsUnruled};
-ghost use Rattle.dm_node.specs.Declining.{GoesByAllRules, EventTakesMemory};
+ghost use Rattle.std.specs.Prelude.{◌≡◌, ◌⊎◌, ℕ, [], Some, Err, All, false, IfErr, IfSome, OnOk, OnErr};
+ghost use Rattle.dm_node.specs.Declining.{IsDeclinedHere, IsRuledOut, IsDirected, IsByRule, GoesByAllRules};
+ghost use Rattle.dm_node.specs.Declining.{EventTakesMemory, refused_with};
 ghost use Rattle.dm_node.specs.Policies.{no_strangers};
 ghost use Rattle.dm_node.specs.Telling.{Concerns, IsMisdirected, IsStrangeCer, StartsFree, told_of};
 ghost use Rattle.dm_node.specs.declared.events.NodeEvent.{NodeEvent as OneEvent};
@@ -311,8 +311,8 @@ impl Node {
     fn neighbour_start_fault(&self, index: usize, conn: Conn) -> Option<OrderFault>
         ensures declined { IfSome result (IsDeclinedHere no_strangers (node_state_of self.now).peers
             (Start index conn)) }
-        ensures rule { IfSome result (IsRuleOf no_strangers (node_state_of self.now).peers (Start index conn)) }
-        ensures none { IfNone result (IsUnruled no_strangers (node_state_of self.now).peers (Start index conn)) }
+        ensures rules { GoesByAllRules no_strangers (node_state_of self.now).peers (Start index conn)
+            (refused_with result) }
     {
         event_refusals_go_by_rule();
         neighbours_are_apart_and_sound(&self.neighbours);

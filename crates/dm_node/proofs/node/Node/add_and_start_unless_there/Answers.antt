@@ -2,7 +2,6 @@
 use Rattle.std.proofs.Common.{sym, ◌∙◌, ap}
 use Rattle.dm_node.specs.NodeOrders.{node_shut}
 use Rattle.dm_node.proofs.NodeRules.{unstarted_goes}
-use Rattle.dm_node.proofs.Welcomed.{at_none}
 use Rattle.dm_node.specs.NodeSeen.{node_state_of, node_known_of}
 use Rattle.dm_node.specs.NodeStates.{NodeState}
 use Rattle.dm_node.specs.Answers.{asks_of}
@@ -35,4 +34,4 @@ returns-in-Ok-tell_order_event-clause-met c =
 pub returns-in-Err-clause-rules : goal.returns-in-Err-clause-rules
 returns-in-Err-clause-rules c =
     unstarted_goes _ c.args.index c.args.conn (node_state_of c.args.self.now) (sym c.if-has.ensures)
-    (at_none _ c.neighbour_start_fault.result c.in_default.is c.neighbour_start_fault.ensures.none)
+    (rw c.in_default.is at c.neighbour_start_fault.ensures.rules)
