@@ -93,34 +93,8 @@ fn admit_or_turn_away<S: Strangers>(
     }
 }
 
-/// What is done at an event that concerns no neighbour: at what came on a connection, its sender is taken in or turned
-/// away; at all else nothing.
-fn admit_or_turn_away_if_arrived<S: Strangers>(
-    alloc: Global,
-    own: &Node,
-    neighbours: &mut Neighbours,
-    strangers: &S,
-    event: NodeEvent<'_>,
-) -> Result<StrangerActions, OrderFault>
-    requires { (i : ℕ) → Concerns (S.policy strangers.now) neighbours.old event i → ⊥ }
-    ensures told { IfOk result (λ r. NodeIsTold (S.policy strangers.now) event.entry own.now
-        neighbours.old r.neighbour r.actions.items neighbours.new) }
-    ensures spelled { IfOk result (λ r. All SendsSpelling r.actions.items) }
-    ensures memory { IfErr result (λ f. (f ≡ faults.Peer peer_faults.NoMemory) × IsStrangeCer event.entry) }
-    ensures unchanged { OnErr result (neighbours.new ≡ neighbours.old) }
-{
-    match event {
-        NodeEvent::Arrived(conn, octets) => {
-            admit_or_turn_away(alloc, own, neighbours, strangers, conn, octets)
-        }
-        _ => Ok(StrangerActions {
-            neighbour: None,
-            actions: ArrayVec::new(),
-        }),
-    }
-}
-
-/// What is done at an event that concerns no neighbour, put into `answer`.
+/// What is done at an event that concerns no neighbour, put into `answer`: at what came on a connection, its sender is
+/// taken in or turned away; at all else nothing.
 #[inline(never)]
 pub(crate) fn handle_stranger_event<S: Strangers>(
     alloc: Global,
@@ -137,12 +111,21 @@ pub(crate) fn handle_stranger_event<S: Strangers>(
     ensures memory { IfErr result (λ f. (f ≡ faults.Peer peer_faults.NoMemory) × IsStrangeCer event.entry) }
     ensures unchanged { OnErr result (neighbours.new ≡ neighbours.old) }
 {
-    match admit_or_turn_away_if_arrived(alloc, own, neighbours, strangers, event) {
-        Ok(done) => {
-            answer.neighbour = done.neighbour;
-            answer.actions = done.actions;
+    match event {
+        NodeEvent::Arrived(conn, octets) => {
+            match admit_or_turn_away(alloc, own, neighbours, strangers, conn, octets) {
+                Ok(done) => {
+                    answer.neighbour = done.neighbour;
+                    answer.actions = done.actions;
+                    Ok(())
+                }
+                Err(fault) => Err(fault),
+            }
+        }
+        _ => {
+            answer.neighbour = None;
+            answer.actions = ArrayVec::new();
             Ok(())
         }
-        Err(fault) => Err(fault),
     }
 }

@@ -3,7 +3,7 @@ use Rattle.std.proofs.Common.{ℕ, subst}
 use Rattle.dm_node.specs.Telling.{Concerns}
 use Rattle.dm_node.specs.declared.events.NodeEvent.{NodeEvent}
 use Rattle.dm_node.proofs.Welcomed.{nothing_told}
-use Rattle.dm_node.proofs.stranger_events.admit_or_turn_away_if_arrived.Goals as goal
+use Rattle.dm_node.proofs.stranger_events.handle_stranger_event.Goals as goal
 
 pub admit_or_turn_away-requires : goal.admit_or_turn_away-requires
 admit_or_turn_away-requires g c =
