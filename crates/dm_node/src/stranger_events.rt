@@ -1,5 +1,5 @@
 //! Events that concern no neighbour: what is done at what a stranger sends.
-ghost use Rattle.std.specs.Prelude.{◌≡◌, ℕ, None, IfOk, IfErr, OnOk, OnErr, IsSome, All};
+ghost use Rattle.std.specs.Prelude.{◌≡◌, ℕ, IfOk, IfErr, OnOk, OnErr, IsSome, All};
 ghost use Rattle.dm_node.specs.Calling.{caller_of, answer_to};
 ghost use Rattle.dm_node.specs.Strangers.{NodeMoves, NodeIsTold};
 ghost use Rattle.dm_node.specs.Telling.{Concerns, IsAddressed, IsStrangeCer};
@@ -28,7 +28,7 @@ pub(crate) struct StrangerActions {
     pub(crate) actions: Actions,
 }
 
-/// What is done on a stranger's connection: an answer 3010 (DIAMETER_UNKNOWN_PEER) to a CER, and a Close. Only the
+/// What turns a stranger away: an answer 3010 (DIAMETER_UNKNOWN_PEER) where the octets are a CER, and a Close. Only the
 /// answer may want memory.
 fn refusing_actions(
     alloc: Global,
@@ -49,27 +49,6 @@ fn refusing_actions(
     Ok(actions)
 }
 
-/// What turns a stranger away: an answer where the octets are a CER, and a Close.
-fn turn_away(
-    alloc: Global,
-    own: &Node,
-    conn: Conn,
-    octets: &[u8],
-) -> Result<StrangerActions, OrderFault>
-    ensures nobody { IfOk result (λ r. r.neighbour ≡ None) }
-    ensures answer { IfOk result (λ r. r.actions.items ≡ answer_to own.now conn (caller_of octets.now)) }
-    ensures spelled { IfOk result (λ r. All SendsSpelling r.actions.items) }
-    ensures memory { IfErr result (λ f. (f ≡ faults.Peer peer_faults.NoMemory) × IsSome (caller_of octets.now)) }
-{
-    match refusing_actions(alloc, own, conn, octets) {
-        Ok(actions) => Ok(StrangerActions {
-            neighbour: None,
-            actions,
-        }),
-        Err(_) => Err(OrderFault::Peer(PeerFault::NoMemory)),
-    }
-}
-
 /// What is done at octets of a connection that concern no neighbour.
 fn admit_or_turn_away<S: Strangers>(
     alloc: Global,
@@ -88,7 +67,13 @@ fn admit_or_turn_away<S: Strangers>(
 {
     match offered_config(alloc, neighbours, strangers, octets) {
         Ok(Some(config)) => tell_and_add_newcomer(alloc, neighbours, config, conn, octets),
-        Ok(None) => turn_away(alloc, own, conn, octets),
+        Ok(None) => match refusing_actions(alloc, own, conn, octets) {
+            Ok(actions) => Ok(StrangerActions {
+                neighbour: None,
+                actions,
+            }),
+            Err(_) => Err(OrderFault::Peer(PeerFault::NoMemory)),
+        },
         Err(_) => Err(OrderFault::Peer(PeerFault::NoMemory)),
     }
 }

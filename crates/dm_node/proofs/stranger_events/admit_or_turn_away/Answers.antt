@@ -1,5 +1,5 @@
 -- A stranger is taken in, stays out, or is turned off.
-use Rattle.std.proofs.Common.{IsSome, refl, sym, subst}
+use Rattle.std.proofs.Common.{None, IsSome, refl, sym, subst}
 use Rattle.dm_machine.specs.declared.connection.Conn.{Conn}
 use Rattle.dm_node.specs.Strangers.{IsForbidden}
 use Rattle.dm_node.proofs.Newcomers.{stranger_free}
@@ -32,13 +32,11 @@ returns-in-Ok-Some-clause-memory g c =
     if_err c.tell_and_add_newcomer.result (λ f memory. (memory, subst IsSome (sym permitted.unknown.calls) refl))
     c.tell_and_add_newcomer.ensures.memory
 
-pub returns-in-Ok-None-clause-moved : goal.returns-in-Ok-None-clause-moved
-returns-in-Ok-None-clause-moved g c =
+pub returns-in-Ok-clause-moved : goal.returns-in-Ok-clause-moved
+returns-in-Ok-clause-moved g c =
     let policy = g.S.Strangers.policy c.args.strangers.now in
     let ps = c.args.neighbours.now in
     let forbidden = at_none ((d : Conn) → IsForbidden policy ps d c.args.octets.now) c.in-Ok-None.field-0
     c.in-Ok-None.field-0-is c.in-Ok-None.ensures.none in
-    both_ok c.turn_away.result
-    (λ r nobody answer. turned_off policy c.args.conn c.args.octets.now c.args.own.now ps r.neighbour r.actions.items
-    c.requires (forbidden c.args.conn) nobody answer)
-    c.turn_away.ensures.nobody c.turn_away.ensures.answer
+    turned_off policy c.args.conn c.args.octets.now c.args.own.now ps None c.in-Ok.actions.items c.requires
+    (forbidden c.args.conn) refl c.in-Ok.ensures.answer
