@@ -1,6 +1,6 @@
 -- Whom neighbours met, place by place.
 use Rattle.std.proofs.Common.{◌≡◌, ◌<◌, inl, inr, ℕ, zero, suc, Bool, true, false, cond, not, ◌&&◌, ◌==◌, nat_eq, true≢false}
-use Rattle.std.proofs.Common.{Result, Ok, Err, OnOk, OnErr, Bor}
+use Rattle.std.proofs.Common.{Bor}
 use Rattle.std.proofs.Common.{Option, None, Some, IsSome, IfSome, IfNone, is_some, List, [], ◌∷◌, ◌++◌, length, map, option_map}
 use Rattle.std.proofs.Common.{refl, sym, ap, ◌∙◌, subst, arith}
 use Rattle.std.specs.Prelude.{nat_lt, slice_get}
@@ -28,7 +28,6 @@ use Rattle.dm_node.specs.Telling.{Concerns, IsAddressed, IsStrangeCer, PeerIsTol
 use Rattle.dm_node.specs.declared.events.NodeEvent.{NodeEvent}
 use Rattle.dm_node.specs.declared.events.NodeEvent.TheVariants as event
 use Rattle.dm_peer.specs.declared.actions.Action.{Action}
-use Rattle.dm_peer.specs.declared.config.Config.{Config}
 use Rattle.dm_peer.specs.declared.peer.Peer.{Peer}
 use Rattle.dm_peer.specs.Events.{PeerEvent, Arrived}
 use Rattle.dm_slots.specs.Acquaintances.{Acquaintance, nobody, exchange_of, spells_exchange, is_exchange_to}
@@ -116,14 +115,6 @@ pub known_more : (ps : List (Option Peer)) (ks : List (Option Acquaintance)) (p 
 known_more ps ks p known =
     map-append is_some ks (Some nobody ∷ []) ∙ ap (λ l. l ++ true ∷ []) known
     ∙ sym (map-append is_some ps (Some p ∷ []))
-
-pub known_added : {T E : Type 0} (r : Result T E) (ps qs : List (Option Peer)) (config : Config)
-    (ks ls : List (Option Acquaintance)) → OnOk r (qs ≡ with_new ps config) → OnErr r (qs ≡ ps) →
-    OnOk r (ls ≡ with_nobody ks) → OnErr r (ls ≡ ks) → AreKnown ps ks → AreKnown qs ls
-known_added (Ok v) ps qs config ks ls added unchanged more same known =
-    ap (map is_some) more ∙ known_more ps ks (new_peer config config.first_id) known ∙ sym (ap (map is_some) added)
-known_added (Err e) ps qs config ks ls added unchanged more same known =
-    ap (map is_some) same ∙ known ∙ sym (ap (map is_some) unchanged)
 
 pub known_fewer : (ps qs : List (Option Peer)) (ks : List (Option Acquaintance)) (i : ℕ) → AreKnown ps ks →
     qs ≡ set ps i None → AreKnown qs (set ks i None)

@@ -63,7 +63,7 @@ fn calling_neighbour_or_porter<S: Strangers>(
 
 /// The neighbour that holds the connection; None where none does.
 #[inline(always)]
-fn holding_neighbour(neighbours: &Neighbours, slots: &Slots, conn: Conn) -> Option<usize>
+pub(crate) fn holding_neighbour(neighbours: &Neighbours, slots: &Slots, conn: Conn) -> Option<usize>
     requires { AreOwned (owners_of slots.now) neighbours.now }
     ensures there { IfSome result (λ i. IsSome (peer_at neighbours.now i)) }
     ensures found { IfSome result (λ i. holds_at neighbours.now conn i ≡ true) }

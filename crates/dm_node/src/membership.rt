@@ -1,9 +1,9 @@
 //! Neighbours that come, go, or begin anew, with the connections that they hold.
-ghost use Rattle.std.specs.Prelude.{◌≡◌, ◌⊎◌, ◌↔◌, ◌++◌, ℕ, true, Option, None, Some, length, is_some};
+ghost use Rattle.std.specs.Prelude.{◌≡◌, ◌⊎◌, ◌↔◌, ◌++◌, ℕ, Option, None, Some, length, is_some};
 ghost use Rattle.std.specs.Prelude.{IsErrOf, OnOk, OnErr, IfOk, IfErr, ◌<◌, if◌then◌else◌};
 ghost use Rattle.dm_machine.specs.declared.connection.Conn.{Conn};
 ghost use Rattle.dm_node.specs.Adding.{with_new};
-ghost use Rattle.dm_node.specs.Holding.{peer_at, holds_it, holds_at, IsKnown};
+ghost use Rattle.dm_node.specs.Holding.{peer_at, holds_it, IsKnown};
 ghost use Rattle.dm_node.specs.declared.fault.AddFault.TheVariants as add_faults;
 ghost use Rattle.dm_peer.specs.Places.{is_on};
 ghost use Rattle.dm_peer.specs.declared.peer.Peer.{Peer};
@@ -12,11 +12,10 @@ ghost use Rattle.dm_node.specs.Owning.{has};
 ghost use Rattle.dm_node.specs.NodeOrders.{left_by_peer, close_if_any, closes_of_any};
 ghost use Rattle.dm_node.specs.declared.answer.Told.TheVariants.{Nothing};
 ghost use Rattle.dm_node.specs.NodeOrders.{node_set_back, node_closed, node_without};
-ghost use Rattle.dm_node.specs.NodeKnown.{known_of, with_nobody, without_known};
+ghost use Rattle.dm_node.specs.NodeKnown.{with_nobody, without_known};
 ghost use Rattle.dm_node.specs.NodeSeen.{node_state_of, node_known_of};
 ghost use Rattle.dm_node.specs.NodeStates.{with_node_peers};
 
-use crate::acquaintances::Acquaintances;
 use crate::neighbours::{Neighbours, neighbours_are_apart_and_sound};
 use crate::owners::Holding;
 use crate::{AddFault, Answer, Node};
@@ -69,35 +68,6 @@ fn fault_of_adding(neighbours: &Neighbours, config: &Config) -> AddFault
     }
 }
 
-/// Adds a closed neighbour of this configuration, who met nobody, and returns its number. Behind an `Err` all is as it
-/// was.
-fn add_neighbour(
-    neighbours: &mut Neighbours,
-    known: &mut Acquaintances,
-    config: Config,
-) -> Result<usize, AddFault>
-    ensures number { IfOk result (λ i. i ≡ length neighbours.old) }
-    ensures added { OnOk result (neighbours.new ≡ with_new neighbours.old config) }
-    ensures known { IsErrOf result add_faults.Known ↔ IsKnown neighbours.old config.peer }
-    ensures refuses { IfErr result (λ f. (f ≡ add_faults.Known) ⊎ (f ≡ add_faults.NoMemory)) }
-    ensures unchanged { OnErr result (neighbours.new ≡ neighbours.old) }
-    ensures held { (c : Conn) (j : ℕ) → holds_at neighbours.new c j ≡ true
-        → holds_at neighbours.old c j ≡ true }
-    ensures unmet { OnOk result (known_of known.new ≡ with_nobody (known_of known.old)) }
-    ensures same { OnErr result (known_of known.new ≡ known_of known.old) }
-{
-    match known.reserve_place() {
-        Ok(()) => match neighbours.push_new_peer(config) {
-            Ok(index) => {
-                known.push_place();
-                Ok(index)
-            }
-            Err(fault) => Err(fault),
-        },
-        Err(_) => Err(fault_of_adding(neighbours, &config)),
-    }
-}
-
 impl Node {
     /// Adds a closed neighbour of this configuration, and answers its number.
     ///
@@ -115,9 +85,15 @@ impl Node {
         ensures unmet { OnOk result (node_known_of self.new ≡ with_nobody (node_known_of self.old)) }
         ensures same { OnErr result (node_known_of self.new ≡ node_known_of self.old) }
     {
-        match add_neighbour(&mut self.neighbours, &mut self.known, config) {
-            Ok(index) => Ok(index),
-            Err(fault) => Err(fault),
+        match self.known.reserve_place() {
+            Ok(()) => match self.neighbours.push_new_peer(config) {
+                Ok(index) => {
+                    self.known.push_place();
+                    Ok(index)
+                }
+                Err(fault) => Err(fault),
+            },
+            Err(_) => Err(fault_of_adding(&self.neighbours, &config)),
         }
     }
 

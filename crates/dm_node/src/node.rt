@@ -5,6 +5,7 @@ ghost use Rattle.dm_node.specs.NodeHeld.{AllHeldAreThere};
 ghost use Rattle.dm_node.specs.NodeKnown.{known_of, AreKnown};
 
 use crate::acquaintances::Acquaintances;
+use crate::concerned_neighbour::holding_neighbour;
 use crate::connection_of_open_peer::connection_of_open_peer;
 use crate::neighbours::Neighbours;
 use crate::settling::settle_connections;
@@ -315,37 +316,39 @@ impl Node {
     {
         connections_stay_until_closed();
         answer.clear();
-        let holder = self.holder(conn);
         match self.intakes.front(conn) {
             Front::Nothing => Ok(()),
-            Front::Message(message) => match tell_message(
-                alloc,
-                &self.own,
-                &mut self.neighbours,
-                &mut self.known,
-                strangers,
-                holder,
-                conn,
-                message,
-                answer,
-            ) {
-                Ok(told) => {
-                    self.intakes.skip_front_message(conn);
-                    settle_connections(
-                        &self.neighbours,
-                        &mut self.intakes,
-                        told,
-                        self.most,
-                        answer,
-                    );
-                    answer.told = Told::Message;
-                    Ok(())
+            Front::Message(message) => {
+                let holder = holding_neighbour(&self.neighbours, &self.intakes, conn);
+                match tell_message(
+                    alloc,
+                    &self.own,
+                    &mut self.neighbours,
+                    &mut self.known,
+                    strangers,
+                    holder,
+                    conn,
+                    message,
+                    answer,
+                ) {
+                    Ok(told) => {
+                        self.intakes.skip_front_message(conn);
+                        settle_connections(
+                            &self.neighbours,
+                            &mut self.intakes,
+                            told,
+                            self.most,
+                            answer,
+                        );
+                        answer.told = Told::Message;
+                        Ok(())
+                    }
+                    Err(error) => {
+                        answer.clear();
+                        Err(error)
+                    }
                 }
-                Err(error) => {
-                    answer.clear();
-                    Err(error)
-                }
-            },
+            }
             Front::Fault => self.tell_fault_and_discard_rest(alloc, strangers, conn, answer),
         }
     }
