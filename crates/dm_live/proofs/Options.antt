@@ -1,7 +1,6 @@
 -- What holds of the value of an option, or of a result.
 use Rattle.std.proofs.Common.{◌≡◌, Option, Some, None, IfSome, IfNone, Result, Ok, Err, IfOk, IfErr}
 use Rattle.std.proofs.Common.{true, refl, subst, sym}
-use Rattle.std.specs.Option.{option_or}
 use Rattle.std.specs.Result.{is_ok, result_and}
 
 pub none-anyway : {A P : Type 0} (r : Option A) → P → IfNone r P
@@ -25,19 +24,3 @@ pub and-holds : {S T E : Type 0} (P : T → Type 0) (done : Result S E) (v : T) 
     → r ≡ result_and done (Ok v) → (is_ok done ≡ true → P v) → IfOk r P
 and-holds P (Ok s) v r is holds = subst (λ w. IfOk w P) (sym is) (holds refl)
 and-holds P (Err e) v r is holds = subst (λ w. IfOk w P) (sym is) tt
-
--- of the first of two options that has a value, or where neither has
-pub or-holds : {T : Type 0} (P : T → Type 0) (a b r : Option T) → r ≡ option_or a b → IfSome a P → IfSome b P
-    → IfSome r P
-or-holds P (Some x) b r is one other = subst (λ v. IfSome v P) (sym is) one
-or-holds P None b r is one other = subst (λ v. IfSome v P) (sym is) other
-
-pub or-none : {T : Type 0} (P Q : Type 0) (a b r : Option T) → r ≡ option_or a b → IfNone a P → IfNone b Q
-    → IfNone r (P × Q)
-or-none P Q (Some x) b r is p q = subst (λ v. IfNone v (P × Q)) (sym is) tt
-or-none P Q None None r is p q = subst (λ v. IfNone v (P × Q)) (sym is) (p, q)
-or-none P Q None (Some x) r is p q = subst (λ v. IfNone v (P × Q)) (sym is) tt
-
-pub none-then : {T : Type 0} (P Q : Type 0) (r : Option T) → IfNone r P → (P → Q) → IfNone r Q
-none-then P Q None p then = then p
-none-then P Q (Some x) p then = tt

@@ -1,6 +1,5 @@
 -- What the lines of a configuration say.
 use Rattle.std.specs.Prelude.{◌≡◌, ◌⊎◌, ℕ, Bool, true, false, Option, None, Some, List, [], ◌∷◌, ◌++◌, codes}
-use Rattle.std.specs.List.{AllByRecursion}
 use Rattle.std.specs.Str.{IsUtf8}
 use Rattle.std.specs.Net.Grammar.{IsIpText}
 use Rattle.std.specs.declared.net.ip_addr.IpAddr.{IpAddr}
@@ -73,10 +72,6 @@ setting_word names.Compare = codes "compare"
 setting_word names.First = codes "first"
 setting_word names.Early = codes "early"
 setting_word names.Max = codes "max"
-
--- the word is the first word of none of these
-abbrev pub IsNoneOf : List ℕ → List SettingName → Type 0
-IsNoneOf word few = AllByRecursion (λ name. word ≡ setting_word name → ⊥) few
 
 -- an IPv4 or IPv6 address as text
 abbrev pub TellsAddress : Ip → List ℕ → Type 0

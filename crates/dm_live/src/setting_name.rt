@@ -1,10 +1,7 @@
 //! The first words of configuration lines.
-ghost use Rattle.std.specs.Prelude.{◌≡◌, ◌∷◌, [], Bool, IfSome, IfNone};
+ghost use Rattle.std.specs.Prelude.{◌≡◌, Bool, IfSome, IfNone};
 ghost use Rattle.dm_live.specs.declared.setting_name.SettingName.{SettingName};
-ghost use Rattle.dm_live.specs.declared.setting_name.SettingName.TheVariants.{Host, Realm, Address, Vendor, Product};
-ghost use Rattle.dm_live.specs.declared.setting_name.SettingName.TheVariants.{Auth, Acct, Supports, Firmware, State};
-ghost use Rattle.dm_live.specs.declared.setting_name.SettingName.TheVariants.{Peer, Compare, First, Early, Max};
-ghost use Rattle.dm_live.specs.Settings.{setting_word, specific_word, IsNoneOf};
+ghost use Rattle.dm_live.specs.Settings.{setting_word, specific_word};
 
 /// What a line of the configuration is about.
 #[derive(Clone, Copy, Drop)]
@@ -26,10 +23,10 @@ pub enum SettingName {
     Max,
 }
 
-/// The setting of the node itself that a word names.
-fn read_node_setting_name(word: &[u8]) -> Option<SettingName>
+/// The setting that a word names; None where it names none.
+pub(crate) fn read_setting_name(word: &[u8]) -> Option<SettingName>
     ensures told { IfSome result (λ name. word.now ≡ setting_word name) }
-    ensures none { IfNone result (IsNoneOf word.now (Host ∷ Realm ∷ Address ∷ Vendor ∷ Product ∷ [])) }
+    ensures none { IfNone result ((name : SettingName) → word.now ≡ setting_word name → ⊥) }
 {
     match word {
         b"host" => Some(SettingName::Host),
@@ -37,31 +34,11 @@ fn read_node_setting_name(word: &[u8]) -> Option<SettingName>
         b"address" => Some(SettingName::Address),
         b"vendor" => Some(SettingName::Vendor),
         b"product" => Some(SettingName::Product),
-        _ => None,
-    }
-}
-
-/// The setting of what the node can do, or of its state, that a word names.
-fn read_ability_setting_name(word: &[u8]) -> Option<SettingName>
-    ensures told { IfSome result (λ name. word.now ≡ setting_word name) }
-    ensures none { IfNone result (IsNoneOf word.now (Auth ∷ Acct ∷ Supports ∷ Firmware ∷ State ∷ [])) }
-{
-    match word {
         b"auth" => Some(SettingName::Auth),
         b"acct" => Some(SettingName::Acct),
         b"supports" => Some(SettingName::Supports),
         b"firmware" => Some(SettingName::Firmware),
         b"state" => Some(SettingName::State),
-        _ => None,
-    }
-}
-
-/// The setting of peers and their messages that a word names.
-fn read_peer_setting_name(word: &[u8]) -> Option<SettingName>
-    ensures told { IfSome result (λ name. word.now ≡ setting_word name) }
-    ensures none { IfNone result (IsNoneOf word.now (Peer ∷ Compare ∷ First ∷ Early ∷ Max ∷ [])) }
-{
-    match word {
         b"peer" => Some(SettingName::Peer),
         b"compare" => Some(SettingName::Compare),
         b"first" => Some(SettingName::First),
@@ -69,16 +46,6 @@ fn read_peer_setting_name(word: &[u8]) -> Option<SettingName>
         b"max" => Some(SettingName::Max),
         _ => None,
     }
-}
-
-/// The setting that a word names; None where it names none.
-pub(crate) fn read_setting_name(word: &[u8]) -> Option<SettingName>
-    ensures told { IfSome result (λ name. word.now ≡ setting_word name) }
-    ensures none { IfNone result ((name : SettingName) → word.now ≡ setting_word name → ⊥) }
-{
-    read_node_setting_name(word)
-        .or(read_ability_setting_name(word))
-        .or(read_peer_setting_name(word))
 }
 
 /// True where the word says that an accounting application of a vendor follows, false where another application of a
