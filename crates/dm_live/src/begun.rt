@@ -9,7 +9,7 @@ ghost use Rattle.dm_live.specs.Stages.{IsBegun};
 
 use crate::answer_lines::put_fault_line_and_dot;
 use crate::configuration::Draft;
-use crate::form::{Form, form_of};
+use crate::form::Form;
 use crate::peers::node_with_peers;
 use dm_node::Node;
 use dm_peer::Config;
@@ -67,7 +67,7 @@ fn begin_node_and_answer(
     match made? {
         Ok(node) => text
             .push_str("ready\n.\n")
-            .and(Ok(Begun::Running(form_of(draft), node))),
+            .and(Ok(Begun::Running(draft.form(), node))),
         Err(name) => refuse_to_begin(number, name, text),
     }
 }

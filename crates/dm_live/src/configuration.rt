@@ -7,20 +7,20 @@ ghost use Rattle.dm_base.specs.declared.extras_fault.ExtrasFault.TheVariants as 
 ghost use Rattle.dm_base.specs.Refusals.{are_extras_long};
 ghost use Rattle.dm_peer.specs.Hosts.{config_fault};
 ghost use Rattle.dm_live.specs.Beginnings.{own_fault, node_told_fault, peers_fault, go_fault, hosts_told, first_told};
-ghost use Rattle.dm_live.specs.Beginnings.{is_several, has_extras, IsOwnOf, IsNodeOf, IsConfiguredFor};
+ghost use Rattle.dm_live.specs.Beginnings.{form_told, has_extras, IsOwnOf, IsNodeOf, IsConfiguredFor};
 ghost use Rattle.dm_live.specs.Beginnings.{node_fault_name, config_fault_name, compares_hosts};
 ghost use Rattle.dm_live.specs.Drafts.{settings_of};
 ghost use Rattle.dm_live.specs.Settings.{Settings, no_settings, Sets, specific_word};
 ghost use Rattle.dm_live.specs.Settings.{TellsOne, TellsSpecific, TellsSetting};
 
+use crate::form::Form;
 use crate::setting_name::{SettingName, read_setting_name, read_vendor_application_name};
 use crate::setting_words::{
-    push_address, push_any_word_as_name, push_number, set_name_to_any_word, set_number,
-    set_optional_number, set_text,
+    push_address, push_any_word_as_name, push_if_told, set_if_told, set_name_to_any_word, set_text,
 };
 use dm_base::{Extras, ExtrasFault, Node, NodeFault, VendorApplication};
 use dm_peer::{Config, ConfigFault};
-use dm_text::Words;
+use dm_text::{Words, read_number};
 use dm_value::Ip;
 use dm_wire::Octets;
 use dm_wire::codes::limits::MAX_MESSAGE_LEN;
@@ -41,11 +41,11 @@ pub(crate) struct Draft {
     vendors: Vec<u32>,
     firmware: Option<u32>,
     state_id: Option<u32>,
-    peers: Vec<Octets>,
+    pub(crate) peers: Vec<Octets>,
     compare: u32,
     first_id: u32,
-    first_max: u32,
-    most: u32,
+    pub(crate) first_max: u32,
+    pub(crate) most: u32,
 }
 
 impl Draft {
@@ -71,20 +71,6 @@ impl Draft {
             first_max: MAX_MESSAGE_LEN,
             most: MAX_MESSAGE_LEN,
         }
-    }
-
-    /// The most octets of a message before the capabilities exchange.
-    pub(crate) fn max_early_message_len(&self) -> u32
-        ensures { result ≡ (settings_of self.now).first_max }
-    {
-        self.first_max
-    }
-
-    /// The most octets of a message behind the capabilities exchange.
-    pub(crate) fn max_later_message_len(&self) -> u32
-        ensures { result ≡ (settings_of self.now).most }
-    {
-        self.most
     }
 
     /// Goes on with a line. False where it tells nothing.
@@ -157,26 +143,22 @@ impl Draft {
             SettingName::Host => set_name_to_any_word(&mut self.host, word),
             SettingName::Realm => set_name_to_any_word(&mut self.realm, word),
             SettingName::Address => push_address(&mut self.addresses, word),
-            SettingName::Vendor => Ok(set_number(&mut self.vendor, word)),
+            SettingName::Vendor => Ok(set_if_told(&mut self.vendor, read_number(word))),
             SettingName::Product => set_text(&mut self.product, word),
-            SettingName::Auth => push_number(&mut self.auth, word),
-            SettingName::Acct => push_number(&mut self.acct, word),
-            SettingName::Supports => push_number(&mut self.vendors, word),
-            SettingName::Firmware => Ok(set_optional_number(&mut self.firmware, word)),
-            SettingName::State => Ok(set_optional_number(&mut self.state_id, word)),
+            SettingName::Auth => push_if_told(&mut self.auth, read_number(word)),
+            SettingName::Acct => push_if_told(&mut self.acct, read_number(word)),
+            SettingName::Supports => push_if_told(&mut self.vendors, read_number(word)),
+            SettingName::Firmware => Ok(set_if_told(
+                &mut self.firmware,
+                read_number(word).map(Some),
+            )),
+            SettingName::State => Ok(set_if_told(&mut self.state_id, read_number(word).map(Some))),
             SettingName::Peer => push_any_word_as_name(&mut self.peers, word),
-            SettingName::Compare => Ok(set_number(&mut self.compare, word)),
-            SettingName::First => Ok(set_number(&mut self.first_id, word)),
-            SettingName::Early => Ok(set_number(&mut self.first_max, word)),
-            SettingName::Max => Ok(set_number(&mut self.most, word)),
+            SettingName::Compare => Ok(set_if_told(&mut self.compare, read_number(word))),
+            SettingName::First => Ok(set_if_told(&mut self.first_id, read_number(word))),
+            SettingName::Early => Ok(set_if_told(&mut self.first_max, read_number(word))),
+            SettingName::Max => Ok(set_if_told(&mut self.most, read_number(word))),
         }
-    }
-
-    /// The hosts of the peers.
-    pub(crate) fn peer_hosts(&self) -> &[Octets]
-        ensures { result.now ≡ (settings_of self.now).peers }
-    {
-        self.peers.as_slice()
     }
 
     /// The host of the first peer, an empty name where there is none.
@@ -189,11 +171,15 @@ impl Draft {
         }
     }
 
-    /// Whether there are several peers.
-    pub(crate) fn has_several_peers(&self) -> bool
-        ensures { result ≡ is_several (settings_of self.now) }
+    /// How many peers there are.
+    pub(crate) fn form(&self) -> Form
+        ensures { result ≡ form_told (settings_of self.now) }
     {
-        self.peers.len() > 1
+        if self.peers.len() > 1 {
+            Form::Several
+        } else {
+            Form::Alone
+        }
     }
 
     /// The configuration for the first peer, or the name of why there is none.

@@ -59,7 +59,7 @@ fn add_all_peers(
     ensures fault { IfOk result (λ added. IfErr added (λ name. peers_fault (settings_of draft.now).host []
         (settings_of draft.now).peers ≡ Some name.now)) }
 {
-    let mut rest = draft.peer_hosts();
+    let mut rest = draft.peers.as_slice();
     'host: while let Some((host, more)) = rest.split_first() {
         if let Err(name) = add_peer(alloc, template, host.as_slice(), node)? {
             return Ok(Err(name));
@@ -86,12 +86,7 @@ pub(crate) fn node_with_peers(
         (settings_of draft.now).peers ≡ Some name.now)) }
 {
     let own = template.node().clone()?;
-    let mut node = Node::new(
-        alloc,
-        own,
-        draft.max_early_message_len(),
-        draft.max_later_message_len(),
-    );
+    let mut node = Node::new(alloc, own, draft.first_max, draft.most);
     match add_all_peers(alloc, draft, template, &mut node) {
         Ok(Ok(())) => Ok(Ok(node)),
         Ok(Err(name)) => {

@@ -1,13 +1,11 @@
-//! The words behind the names of configuration lines. Each helper answers false, and changes nothing, where its word
-//! tells nothing.
-ghost use Rattle.std.specs.Prelude.{◌≡◌, ◌∷◌, ◌++◌, [], ℕ, true, false, Some, IfOk, IfSome, IfNone, OnOk};
+//! The words behind the names of configuration lines. Each helper answers false, and changes nothing, where nothing is
+//! told.
+ghost use Rattle.std.specs.Prelude.{◌≡◌, ◌∷◌, ◌++◌, [], true, false, IfOk, IfSome, IfNone, OnOk};
 ghost use Rattle.std.specs.Str.{IsUtf8};
 ghost use Rattle.std.specs.String.{string_bytes};
-ghost use Rattle.dm_text.specs.Numbers.{TellsNumber};
 ghost use Rattle.dm_value.specs.declared.address.Ip.{Ip as AnIp};
 ghost use Rattle.dm_live.specs.Settings.{TellsAddress};
 
-use dm_text::read_number;
 use dm_value::Ip;
 use dm_wire::Octets;
 use std::alloc::AllocError;
@@ -77,46 +75,29 @@ pub(crate) fn push_address(list: &mut Vec<Ip>, word: &[u8]) -> Result<bool, Allo
     }
 }
 
-/// Takes the number that the word tells in place of the one said before; false where it tells none.
-pub(crate) fn set_number(number: &mut u32, word: &[u8]) -> bool
-    ensures put { result ≡ true → TellsNumber number.new word.now }
-    ensures bad { result ≡ false → (n : ℕ) → TellsNumber n word.now → ⊥ }
-    ensures kept { result ≡ false → number.new ≡ number.old }
+/// Takes what is told in place of what was said before; false where nothing is told.
+pub(crate) fn set_if_told<T: Copy>(place: &mut T, told: Option<T>) -> bool
+    ensures put { IfSome told (λ value. (result ≡ true) × (place.new ≡ value)) }
+    ensures kept { IfNone told ((result ≡ false) × (place.new ≡ place.old)) }
 {
-    match read_number(word) {
-        Some(told) => {
-            *number = told;
+    match told {
+        Some(value) => {
+            *place = value;
             true
         }
         None => false,
     }
 }
 
-/// Takes the number that the word tells in place of the one said before, if there was one; false where it tells none.
-pub(crate) fn set_optional_number(number: &mut Option<u32>, word: &[u8]) -> bool
-    ensures put { result ≡ true → (n : ℕ) × TellsNumber n word.now × (number.new ≡ Some n) }
-    ensures bad { result ≡ false → (n : ℕ) → TellsNumber n word.now → ⊥ }
-    ensures kept { result ≡ false → number.new ≡ number.old }
+/// Puts what is told behind what was said before; false where nothing is told.
+pub(crate) fn push_if_told<T: Copy>(list: &mut Vec<T>, told: Option<T>) -> Result<bool, AllocError>
+    ensures put { IfSome told (λ value. IfOk result (λ good. (good ≡ true)
+        × (list.new.items ≡ list.old.items ++ value ∷ []))) }
+    ensures kept { IfNone told (IfOk result (λ good. (good ≡ false) × (list.new.items ≡ list.old.items))) }
 {
-    match read_number(word) {
-        Some(told) => {
-            *number = Some(told);
-            true
-        }
-        None => false,
-    }
-}
-
-/// Puts the number that the word tells behind those said before; false where it tells none.
-pub(crate) fn push_number(list: &mut Vec<u32>, word: &[u8]) -> Result<bool, AllocError>
-    ensures put { IfOk result (λ good. good ≡ true → (n : ℕ) × TellsNumber n word.now
-        × (list.new.items ≡ list.old.items ++ n ∷ [])) }
-    ensures bad { IfOk result (λ good. good ≡ false → (n : ℕ) → TellsNumber n word.now → ⊥) }
-    ensures kept { IfOk result (λ good. good ≡ false → list.new.items ≡ list.old.items) }
-{
-    match read_number(word) {
-        Some(told) => {
-            list.push(told)?;
+    match told {
+        Some(value) => {
+            list.push(value)?;
             Ok(true)
         }
         None => Ok(false),

@@ -23,9 +23,9 @@ returns-in-Ok c =
     ∙ ok-holds _ _ _ c.in-Ok.is c.in_ok-node.ensures.good in
     let Said : Begun → Type 0 = λ b. (x : List ℕ) × IsBegun c.args.number s b x
     × string_bytes c.push_str.new.self ≡ string_bytes c.args.text.now ++ x in
-    and-holds Said c.push_str.result (variants.Running c.form_of.result c.in-Ok.node) _ c.and.ensures
+    and-holds Said c.push_str.result (variants.Running c.form.result c.in-Ok.node) _ c.and.ensures
     (λ done. (
       ready_answer,
-      (good, c.form_of.ensures, record { node = begun; unmet = unmet }, refl),
+      (good, c.form.ensures, record { node = begun; unmet = unmet }, refl),
       (rw done at c.push_str.ensures.bytes),
     ))
