@@ -1,19 +1,22 @@
 -- Turn by turn.
-use Rattle.std.proofs.Common.{◌≡◌, inl, ℕ, Option, List, [], ◌∷◌, ◌++◌, ap, ◌∙◌, refl, sym, append_assoc, subst}
-use Rattle.std.proofs.Common.{Result, Ok, Err, OnOk, IfOk}
+use Rattle.std.proofs.Common.{◌≡◌, inl, ℕ, Option, None, Some, List, [], ◌∷◌, ◌++◌, ap, ◌∙◌, refl, sym, append_assoc}
+use Rattle.std.proofs.Common.{subst, Result, Ok, Err, IfSome, OnOk, IfOk}
 use Rattle.std.proofs.lemmas.List.{flat_map_more}
 use Rattle.std.specs.Option.{option_or}
 use Rattle.dm_machine.specs.declared.connection.Conn.{Conn}
 use Rattle.dm_node.specs.Policies.{Policy}
 use Rattle.dm_peer.specs.declared.peer.Peer.{Peer}
 use Rattle.dm_node.specs.declared.order.Order.{Order}
+use Rattle.dm_node.specs.declared.answer.Told.{Told}
+use Rattle.dm_node.specs.declared.answer.Told.TheVariants.{Nothing, Message}
+use Rattle.dm_node.specs.Answers.{turn_told}
 use Rattle.dm_live.specs.declared.asked.Asked.{Asked}
 use Rattle.dm_node.specs.NodeKnown.{KnownAfterOrder}
 use Rattle.dm_node.specs.NodeOrders.{NodeTakes}
-use Rattle.dm_node.specs.NodeStates.{NodeAnswer, NodeTurn}
+use Rattle.dm_node.specs.NodeStates.{NodeAnswer, NodeTurn, NodeIsOut}
 use Rattle.dm_live.specs.declared.form.Form.{Form}
 use Rattle.dm_live.specs.Answers.{asked_lines, whom_asked, turn_lines, turns_lines, whom_last, states_behind, policy_of}
-use Rattle.dm_live.specs.Answers.{TakesOrder, TakesAs, MeetsNext, MeetsAlong, HearsOut, Answers}
+use Rattle.dm_live.specs.Answers.{TakesOrder, TakesAs, MeetsNext, MeetsAlong, MeetsOut, HearsOut, Answers}
 use Rattle.dm_live.specs.Meetings.{Meeting}
 
 -- one turn more
@@ -42,6 +45,22 @@ pub whom_after : (who last next : Option ℕ) (turns : List NodeTurn) (turn : No
 whom_after who last next turns turn is more =
     more ∙ ap (λ v. option_or turn.answer.neighbour v) is ∙ sym (whom_push who turns turn)
 
+-- the turn of what was told
+pub turn_of : (c : Conn) (told : Told) (answer : NodeAnswer) (P Q : NodeTurn → Type 0) → (told ≡ Nothing → ⊥)
+    → IfSome (turn_told c told answer) P → IfSome (turn_told c told answer) Q
+    → (turn : NodeTurn) × (turn.answer ≡ answer) × P turn × Q turn
+turn_of c Nothing answer P Q some p q = absurd (some refl)
+turn_of c Message answer P Q some p q = (record { arrived = Some c; answer = answer }, refl, p, q)
+turn_of c told answer P Q some p q = (record { arrived = None; answer = answer }, refl, p, q)
+
+-- where nothing was told
+pub along_out : (policy : Policy) (c : Conn) (s m t : Meeting) (turns : List NodeTurn) → MeetsAlong policy c s turns m
+    → NodeIsOut c m.node × (t.node ≡ m.node) → t.known ≡ m.known → MeetsOut policy c s turns t
+along_out policy c s m t turns along (out, node) known =
+    let same : m ≡ t = ap (λ v. record { node = v; known = m.known }) (sym node)
+    ∙ ap (λ v. record { node = t.node; known = v }) (sym known) in
+    subst (λ v. MeetsOut policy c s turns v) same (along, out)
+
 -- an order that was taken
 pub taken_so : {E : Type 0} (r : Result (Option ℕ) E) (form : Form) (o : Order) (m n : Meeting)
     (asks : Option NodeAnswer) (old new : List ℕ) → NodeTakes o m.node asks n.node
@@ -51,11 +70,6 @@ pub taken_so : {E : Type 0} (r : Result (Option ℕ) E) (form : Form) (o : Order
 taken_so (Err e) form o m n asks old new takes knows is text = tt
 taken_so (Ok who) form o m n asks old new takes knows is text =
     (asked_lines form o asks, inl (asks, takes, knows, is, refl), text)
-
--- what holds of what is done
-pub done_so : {A E : Type 0} {P Q : A → Type 0} (r : Result A E) → ((a : A) → P a → Q a) → IfOk r P → IfOk r Q
-done_so (Err e) f h = tt
-done_so (Ok a) f h = f a h
 
 -- the parts of an answer, one behind the other
 pub answered : {T E : Type 0} (r : Result T E) (form : Form) (o : Asked) (s m t : Meeting) (who last : Option ℕ)

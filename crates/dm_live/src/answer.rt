@@ -1,11 +1,10 @@
 //! What a line asks, told and answered, and which neighbour that concerned.
-ghost use Rattle.std.specs.Prelude.{◌≡◌, ◌++◌, ℕ, List, None, Some, true, false, IfOk, IfSome, IfNone, OnOk};
-ghost use Rattle.std.specs.Option.{option_or};
+ghost use Rattle.std.specs.Prelude.{◌≡◌, ◌++◌, ℕ, List, None, IfOk, IfSome, IfNone, OnOk};
 ghost use Rattle.std.specs.String.{string_bytes};
 ghost use Rattle.dm_node.specs.NodeStates.{NodeTurn as OneTurn, NodeIsOut};
 ghost use Rattle.dm_node.specs.Answers.{asks_of, turn_in};
 ghost use Rattle.dm_live.specs.Answers.{TakesOrder, MeetsNext, MeetsOut, Answers};
-ghost use Rattle.dm_live.specs.Answers.{asked_lines, turn_lines, turns_lines, whom_asked, whom_last};
+ghost use Rattle.dm_live.specs.Answers.{asked_lines, turns_lines, whom_asked, whom_last};
 ghost use Rattle.dm_live.specs.Answers.{refuser, policy_of};
 ghost use Rattle.dm_live.specs.Meetings.{meeting_of};
 ghost use Rattle.dm_live.specs.OrderLines.{order_asked};
@@ -85,24 +84,11 @@ fn put_order_outcome(
         ≡ string_bytes text.old ++ asked_lines form order.entry (asks_of answer.now)) }
 {
     match answer.told {
-        Told::Nothing => {
-            put_ignored_unless_accept_or_reset(text, order)?;
-            Ok(neighbour_to_reset(order))
-        }
+        Told::Nothing => put_ignored_unless_accept_or_reset(text, order),
         _ => {
             put_event_answer(text, form, answer)?;
             Ok(answer.neighbour)
         }
-    }
-}
-
-/// The neighbour that an order has begin anew, if it is such an order.
-fn neighbour_to_reset(order: Order<'_>) -> Option<usize>
-    ensures { result ≡ whom_asked order.entry None }
-{
-    match order {
-        Order::Reset(index) => Some(index),
-        _ => None,
     }
 }
 
@@ -147,62 +133,15 @@ fn tell_all_that_came(
 {
     let mut last = None;
     'turn: for _ in 0..u64::MAX {
-        if !tell_next_that_came(alloc, form, node, conn, &mut last, answer, text)? {
+        tell_turn_if_any(alloc, form, node, conn, answer)?;
+        if let Told::Nothing = answer.told {
             return Ok(last);
         }
+        put_turn(text, form, conn, answer)?;
+        last = answer.neighbour.or(last);
     }
     // More octets than any memory holds.
     Err(AllocError)
-}
-
-/// Tells the next message that came on the connection, or a fault, and appends what that comes to; `last` is whom it
-/// concerned, where it concerned anybody. False where there is none.
-fn tell_next_that_came(
-    alloc: Global,
-    form: Form,
-    node: &mut Node,
-    conn: Conn,
-    last: &mut Option<usize>,
-    answer: &mut Answer,
-    text: &mut String,
-) -> Result<bool, AllocError>
-    ensures told { IfOk result (λ more. more ≡ true → (turn : OneTurn)
-        × MeetsNext (policy_of form) conn (meeting_of node.old) turn (meeting_of node.new)
-        × (last.new ≡ option_or turn.answer.neighbour last.old)
-        × (string_bytes text.new ≡ string_bytes text.old ++ turn_lines form turn)) }
-    ensures out { IfOk result (λ more. more ≡ false → NodeIsOut conn (meeting_of node.new).node
-        × (meeting_of node.new ≡ meeting_of node.old) × (last.new ≡ last.old)
-        × (string_bytes text.new ≡ string_bytes text.old)) }
-{
-    match tell_turn_if_any(alloc, form, node, conn, answer) {
-        Ok(()) => put_turn_if_any(text, form, conn, last, answer),
-        Err(error) => Err(error),
-    }
-}
-
-/// Appends what a turn of the connection comes to, if there was one, and answers whether; `last` is whom it concerned,
-/// where it concerned anybody.
-fn put_turn_if_any(
-    text: &mut String,
-    form: Form,
-    conn: Conn,
-    last: &mut Option<usize>,
-    answer: &Answer,
-) -> Result<bool, AllocError>
-    ensures told { IfOk result (λ more. more ≡ true → (turn : OneTurn) × (turn_in conn answer.now ≡ Some turn)
-        × (last.new ≡ option_or turn.answer.neighbour last.old)
-        × (string_bytes text.new ≡ string_bytes text.old ++ turn_lines form turn)) }
-    ensures out { IfOk result (λ more. more ≡ false → (turn_in conn answer.now ≡ None) × (last.new ≡ last.old)
-        × (string_bytes text.new ≡ string_bytes text.old)) }
-{
-    match answer.told {
-        Told::Nothing => Ok(false),
-        _ => {
-            put_turn(text, form, conn, answer)?;
-            *last = answer.neighbour.or(*last);
-            Ok(true)
-        }
-    }
 }
 
 /// Tells the next message that came on the connection, or a fault, if there is one. What strangers send is told a peer

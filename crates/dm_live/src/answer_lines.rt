@@ -1,9 +1,7 @@
 //! The lines of an answer.
-ghost use Rattle.std.specs.Prelude.{◌≡◌, ◌≢◌, ◌∷◌, ◌++◌, [], None, Some, IfSome, OnOk, codes};
-ghost use Rattle.std.specs.Fmt.{decimal};
+ghost use Rattle.std.specs.Prelude.{◌≡◌, ◌≢◌, ◌++◌, None, Some, IfOk, IfSome, OnOk};
 ghost use Rattle.std.specs.Option.{option_copied};
 ghost use Rattle.std.specs.String.{string_bytes};
-ghost use Rattle.hex.specs.Hex.{encode_lower};
 ghost use Rattle.dm_live.specs.AnswerLines.{action_line, action_lines, arrival_line, refusal_line};
 ghost use Rattle.dm_node.specs.declared.fault.OrderFault.TheVariants as faults;
 ghost use Rattle.dm_peer.specs.declared.fault.PeerFault.TheVariants as peer_faults;
@@ -11,7 +9,7 @@ ghost use Rattle.dm_node.specs.NodeSeen.{node_state_of};
 ghost use Rattle.dm_node.specs.Answers.{as_answer, turn_in};
 ghost use Rattle.dm_node.specs.declared.answer.Told.TheVariants.{Message};
 ghost use Rattle.dm_live.specs.Answers.{ignored_line, neighbour_line, event_lines, turn_lines, event_refusal_line};
-ghost use Rattle.dm_live.specs.Answers.{state_line, states_lines, states_behind};
+ghost use Rattle.dm_live.specs.Answers.{state_line, states_lines, states_behind, whom_asked};
 ghost use Rattle.dm_live.specs.OrderLines.{order_asked};
 ghost use Rattle.dm_live.specs.Served.{fault_answer};
 ghost use Rattle.dm_live.specs.AnswerLines.{held_words, standing_words};
@@ -32,20 +30,14 @@ fn put_action_line(text: &mut String, action: &Action) -> Result<(), AllocError>
 {
     match action {
         Action::Connect(conn) => put_words_number_and_line_end(text, "connect ", conn.0),
-        Action::Send(conn, octets) => put_send_line(text, *conn, octets.as_slice()),
+        Action::Send(conn, octets) => {
+            text.push_str("send ")?;
+            put_decimal(text, conn.0)?;
+            put_words_octets_and_line_end(text, " ", octets.as_slice())
+        }
         Action::Close(conn) => put_words_number_and_line_end(text, "close ", conn.0),
         Action::Up(octets) => put_words_octets_and_line_end(text, "up ", octets.as_slice()),
     }
-}
-
-/// Appends the line of a message that is sent.
-fn put_send_line(text: &mut String, conn: Conn, message: &[u8]) -> Result<(), AllocError>
-    ensures { OnOk result (string_bytes text.new ≡ string_bytes text.old
-        ++ codes "send " ++ decimal conn.0 ++ codes " " ++ encode_lower message.now ++ 10 ∷ []) }
-{
-    text.push_str("send ")?;
-    put_decimal(text, conn.0)?;
-    put_words_octets_and_line_end(text, " ", message)
 }
 
 /// Appends the lines of actions, in order.
@@ -69,20 +61,6 @@ fn put_arrival_line_if_message(text: &mut String, conn: Conn, told: Told) -> Res
     match told {
         Told::Message => put_words_number_and_line_end(text, "arrived ", conn.0),
         _ => Ok(()),
-    }
-}
-
-/// Appends the line of why a peer refused an order. Want of memory has no words, and is answered as such.
-#[tactic(auto, unfolding(crate::specs::AnswerLines::refusal_line))]
-fn put_peer_refusal_line(text: &mut String, fault: PeerFault) -> Result<(), AllocError>
-    ensures words { OnOk result (string_bytes text.new ≡ string_bytes text.old ++ refusal_line fault) }
-    ensures known { OnOk result (fault ≢ PeerFault.NoMemory) }
-{
-    match fault {
-        PeerFault::NotClosed => text.push_str("refused NotClosed\n"),
-        PeerFault::NotOpen => text.push_str("refused NotOpen\n"),
-        PeerFault::BadSubmit => text.push_str("refused BadSubmit\n"),
-        PeerFault::NoMemory => Err(AllocError),
     }
 }
 
@@ -177,29 +155,38 @@ pub(crate) fn put_turn(
 }
 
 /// Appends that an order told no event, where it is one of those that tell one: all but an accept and the resets.
+/// Answers whom the order concerns: the neighbour that a reset has begin anew.
 #[tactic(auto, unfolding(crate::specs::Answers::ignored_line))]
 pub(crate) fn put_ignored_unless_accept_or_reset(
     text: &mut String,
     order: Order<'_>,
-) -> Result<(), AllocError>
-    ensures { OnOk result (string_bytes text.new
+) -> Result<Option<usize>, AllocError>
+    ensures who { IfOk result (λ who. who ≡ whom_asked order.entry None) }
+    ensures text { OnOk result (string_bytes text.new
         ≡ string_bytes text.old ++ ignored_line (order_asked order.entry).order) }
 {
     match order {
-        Order::Accept(_) | Order::Reset(_) | Order::ResetAll => Ok(()),
-        _ => text.push_str("ignored\n"),
+        Order::Accept(_) | Order::ResetAll => Ok(None),
+        Order::Reset(index) => Ok(Some(index)),
+        _ => {
+            text.push_str("ignored\n")?;
+            Ok(None)
+        }
     }
 }
 
 /// Appends the line of why an order was refused. Want of memory has no words, and is answered as such.
-#[tactic(auto, unfolding(crate::specs::Answers::event_refusal_line))]
+#[tactic(auto, unfolding(crate::specs::Answers::event_refusal_line, crate::specs::AnswerLines::refusal_line))]
 pub(crate) fn put_order_refusal_line(text: &mut String, fault: OrderFault) -> Result<(), AllocError>
     ensures words { OnOk result (string_bytes text.new ≡ string_bytes text.old ++ event_refusal_line fault) }
     ensures known { OnOk result (fault ≢ faults.Peer peer_faults.NoMemory) }
 {
     match fault {
         OrderFault::NoNeighbour => text.push_str("refused NoNeighbour\n"),
-        OrderFault::Peer(fault) => put_peer_refusal_line(text, fault),
+        OrderFault::Peer(PeerFault::NotClosed) => text.push_str("refused NotClosed\n"),
+        OrderFault::Peer(PeerFault::NotOpen) => text.push_str("refused NotOpen\n"),
+        OrderFault::Peer(PeerFault::BadSubmit) => text.push_str("refused BadSubmit\n"),
+        OrderFault::Peer(PeerFault::NoMemory) => Err(AllocError),
     }
 }
 
