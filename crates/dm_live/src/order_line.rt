@@ -8,14 +8,14 @@ use crate::asked::Asked;
 use crate::form::Form;
 use crate::order_name::{OrderName, read_order_name};
 use crate::order_words::{
-    no_word_left, only_conn_and_word_left, only_conn_left, only_neighbour_and_cause_left,
-    only_neighbour_and_conn_left, only_neighbour_and_word_left, only_neighbour_left,
+    next_conn, next_neighbour, only_cause_left, only_conn_left, only_neighbour_left,
 };
 use dm_base::Cause;
 use dm_machine::Conn;
 use dm_node::Order;
 use dm_text::{Words, read_hex_word, read_long_number};
 use dm_wire::Octets;
+use dm_words::only_word_left;
 use std::alloc::{AllocError, Global};
 
 /// An order as a line tells it, with its octets. A peer is named by its number, which is 0 where it is alone.
@@ -94,7 +94,8 @@ fn read_order_of_name(form: Form, name: OrderName, left: &mut Words<'_>) -> Opti
 {
     match name {
         OrderName::Start => {
-            let (index, conn) = only_neighbour_and_conn_left(form, left)?;
+            let index = next_neighbour(form, left)?;
+            let conn = only_conn_left(left)?;
             Some(OrderLine::Start(index, conn))
         }
         OrderName::Ack => Some(OrderLine::Ack(only_conn_left(left)?)),
@@ -104,42 +105,34 @@ fn read_order_of_name(form: Form, name: OrderName, left: &mut Words<'_>) -> Opti
         OrderName::Timeout => Some(OrderLine::Timeout(only_neighbour_left(form, left)?)),
         OrderName::Tick => Some(OrderLine::Tick(only_neighbour_left(form, left)?)),
         OrderName::Stop => {
-            let (index, cause) = only_neighbour_and_cause_left(form, left)?;
+            let index = next_neighbour(form, left)?;
+            let cause = only_cause_left(left)?;
             Some(OrderLine::Stop(index, cause))
         }
         OrderName::Octets | OrderName::Submit | OrderName::Reset => None,
     }
 }
 
-/// The order that each neighbour begins anew, or the one that is named; None where the words behind `reset` are others.
+/// The order that each neighbour begins anew, or of several the one that is named; None where the words behind `reset`
+/// are others.
 fn read_reset(form: Form, left: &mut Words<'_>) -> Option<OrderLine>
     ensures told { IfSome result (λ o. TellsNamed form OrderName.Reset (told_order o) (words left.old)) }
     ensures none { IfNone result ((o : OneAsked)
         → TellsNamed form OrderName.Reset (node_asked o) (words left.old) → ⊥) }
 {
-    match form {
-        Form::Alone if no_word_left(left) => Some(OrderLine::ResetAll),
-        Form::Alone => None,
-        Form::Several => read_reset_of_several(left),
-    }
-}
-
-/// The order that of several neighbours the one that is named begins anew, or each of them; None where the words are
-/// others.
-fn read_reset_of_several(left: &mut Words<'_>) -> Option<OrderLine>
-    ensures told { IfSome result (λ o.
-        TellsNamed Form.Several OrderName.Reset (told_order o) (words left.old)) }
-    ensures none { IfNone result ((o : OneAsked)
-        → TellsNamed Form.Several OrderName.Reset (node_asked o) (words left.old) → ⊥) }
-{
     let Some(word) = left.next() else {
         return Some(OrderLine::ResetAll);
     };
-    let index = read_long_number(word)?;
-    if left.next().is_some() {
-        return None;
+    match form {
+        Form::Alone => None,
+        Form::Several => {
+            let index = read_long_number(word)?;
+            if left.next().is_some() {
+                return None;
+            }
+            Some(OrderLine::Reset(index as usize))
+        }
     }
-    Some(OrderLine::Reset(index as usize))
 }
 
 /// The piece that came on a connection, in hexadecimal; None where the words tell none.
@@ -153,7 +146,10 @@ fn read_piece(
     ensures none { IfOk result (λ read. IfNone read ((o : OneAsked)
         → TellsNamed form OrderName.Octets (node_asked o) (words left.old) → ⊥)) }
 {
-    let Some((conn, word)) = only_conn_and_word_left(left) else {
+    let Some(conn) = next_conn(left) else {
+        return Ok(None);
+    };
+    let Some(word) = only_word_left(left) else {
         return Ok(None);
     };
     match read_hex_word(alloc, word)? {
@@ -173,7 +169,10 @@ fn read_submit(
     ensures none { IfOk result (λ read. IfNone read ((o : OneAsked)
         → TellsNamed form OrderName.Submit (node_asked o) (words left.old) → ⊥)) }
 {
-    let Some((index, word)) = only_neighbour_and_word_left(form, left) else {
+    let Some(index) = next_neighbour(form, left) else {
+        return Ok(None);
+    };
+    let Some(word) = only_word_left(left) else {
         return Ok(None);
     };
     match read_hex_word(alloc, word)? {

@@ -4,7 +4,6 @@ ghost use Rattle.dm_text.specs.Words.{words};
 ghost use Rattle.dm_text.specs.Numbers.{TellsNumber, TellsLongNumber};
 ghost use Rattle.dm_base.specs.declared.kind.Cause.{Cause};
 ghost use Rattle.dm_base.specs.Built.{cause_number};
-ghost use Rattle.dm_machine.specs.declared.connection.Conn.{Conn};
 ghost use Rattle.dm_live.specs.OrderLines.{TellsConn, NamesNeighbour};
 
 use crate::form::Form;
@@ -14,7 +13,7 @@ use dm_text::{Words, read_long_number};
 use dm_words::{next_long_number, only_word_left, read_disconnect_cause_by_number};
 
 /// The connection whose number the next word tells; None where it tells none.
-fn next_conn(left: &mut Words<'_>) -> Option<Conn>
+pub(crate) fn next_conn(left: &mut Words<'_>) -> Option<Conn>
     ensures told { IfSome result (λ c. (number : List ℕ) × (words left.old ≡ number ∷ words left.new)
         × TellsLongNumber c.0 number) }
     ensures none { IfNone result ((n : ℕ) (number : List ℕ) (more : List (List ℕ)) → words left.old ≡ number ∷ more
@@ -37,21 +36,9 @@ pub(crate) fn only_conn_left(left: &mut Words<'_>) -> Option<Conn>
     Some(conn)
 }
 
-/// The connection that the next word tells, and the word behind it; None where there aren't just these two.
-pub(crate) fn only_conn_and_word_left<'a>(left: &mut Words<'a>) -> Option<(Conn, &'a [u8])>
-    ensures told { IfSome result (λ r. (number : List ℕ) × (words left.old ≡ number ∷ r.1.now ∷ [])
-        × TellsLongNumber r.0.0 number) }
-    ensures none { IfNone result ((n : ℕ) (number word : List ℕ) → words left.old ≡ number ∷ word ∷ []
-        → TellsLongNumber n number → ⊥) }
-{
-    let conn = next_conn(left)?;
-    let word = only_word_left(left)?;
-    Some((conn, word))
-}
-
 /// The neighbour that the next word names, where there are several, else the one that is alone; None where none is
 /// named.
-fn next_neighbour(form: Form, left: &mut Words<'_>) -> Option<usize>
+pub(crate) fn next_neighbour(form: Form, left: &mut Words<'_>) -> Option<usize>
     ensures told { IfSome result (λ i. NamesNeighbour form i (words left.old) (words left.new)) }
     ensures none { IfNone result ((n : ℕ) (more : List (List ℕ)) → NamesNeighbour form n (words left.old) more
         → ⊥) }
@@ -75,50 +62,6 @@ pub(crate) fn only_neighbour_left(form: Form, left: &mut Words<'_>) -> Option<us
     }
 }
 
-/// The neighbour of the order, and the connection behind it; None where the words are others.
-pub(crate) fn only_neighbour_and_conn_left(
-    form: Form,
-    left: &mut Words<'_>,
-) -> Option<(usize, Conn)>
-    ensures told { IfSome result (λ r. (more : List (List ℕ)) × NamesNeighbour form r.0 (words left.old) more
-        × TellsConn r.1 more) }
-    ensures none { IfNone result ((n : ℕ) (c : Conn) (more : List (List ℕ))
-        → NamesNeighbour form n (words left.old) more → TellsConn c more → ⊥) }
-{
-    let index = next_neighbour(form, left)?;
-    let conn = only_conn_left(left)?;
-    Some((index, conn))
-}
-
-/// The neighbour of the order, and the cause whose number stands behind it; None where the words are others.
-pub(crate) fn only_neighbour_and_cause_left(
-    form: Form,
-    left: &mut Words<'_>,
-) -> Option<(usize, Cause)>
-    ensures told { IfSome result (λ r. (more : List (List ℕ)) × NamesNeighbour form r.0 (words left.old) more
-        × (number : List ℕ) × (more ≡ number ∷ []) × TellsNumber (cause_number r.1) number) }
-    ensures none { IfNone result ((n : ℕ) (cause : Cause) (number : List ℕ)
-        → NamesNeighbour form n (words left.old) (number ∷ []) → TellsNumber (cause_number cause) number → ⊥) }
-{
-    let index = next_neighbour(form, left)?;
-    let cause = only_cause_left(left)?;
-    Some((index, cause))
-}
-
-/// The neighbour of the order, and the word behind it; None where the words are others.
-pub(crate) fn only_neighbour_and_word_left<'a>(
-    form: Form,
-    left: &mut Words<'a>,
-) -> Option<(usize, &'a [u8])>
-    ensures told { IfSome result (λ r. NamesNeighbour form r.0 (words left.old) (r.1.now ∷ [])) }
-    ensures none { IfNone result ((n : ℕ) (word : List ℕ)
-        → NamesNeighbour form n (words left.old) (word ∷ []) → ⊥) }
-{
-    let index = next_neighbour(form, left)?;
-    let word = only_word_left(left)?;
-    Some((index, word))
-}
-
 /// The cause whose number is the only word left; None where it isn't.
 pub(crate) fn only_cause_left(left: &mut Words<'_>) -> Option<Cause>
     ensures told { IfSome result (λ cause. (number : List ℕ) × (words left.old ≡ number ∷ [])
@@ -130,7 +73,7 @@ pub(crate) fn only_cause_left(left: &mut Words<'_>) -> Option<Cause>
 }
 
 /// Whether no word is left.
-pub(crate) fn no_word_left(left: &mut Words<'_>) -> bool
+fn no_word_left(left: &mut Words<'_>) -> bool
     ensures told { result ≡ true → words left.old ≡ [] }
     ensures none { result ≡ false → words left.old ≡ [] → ⊥ }
 {
