@@ -1,5 +1,5 @@
 //! The program, but for its real streams: what its command line asks for is done, and what that comes to is told.
-ghost use Rattle.std.specs.Prelude.{◌≡◌, ◌≢◌, ◌++◌, [], ℕ, List, true, false, None, Err, IfSome, IfNone, IfOk};
+ghost use Rattle.std.specs.Prelude.{◌≡◌, ◌≢◌, ◌++◌, [], ℕ, List, true, None, Err, IfSome, IfNone, IfOk};
 ghost use Rattle.std.specs.Prelude.{IfErr, OnOk, OnErr};
 ghost use Rattle.std.specs.Io.KnownBytes.{Appends};
 ghost use Rattle.dm_io.specs.Ending.{line_of};
@@ -41,45 +41,13 @@ pub fn run_program<R: Read + Drop, W: Write, E: Write>(
         × Appends (E.contents errors.old) (E.contents errors.new) front }
 {
     match words {
-        Ok(words) => {
-            let is_asked = has_no_words(words.as_slice());
-            drop(words);
-            let outcome = run_if_asked(alloc, is_asked, reader, writer);
-            write_ending_of_outcome(outcome, errors)
+        Ok(words) if words.is_empty() => {
+            let outcome = serve_reader(alloc, reader, writer);
+            write_ending_of_outcome(Some(outcome), errors)
         }
-        Err(WordsFault::NotText) => write_ending_of_outcome(None, errors),
+        Ok(_) | Err(WordsFault::NotText) => write_ending_of_outcome(None, errors),
         Err(WordsFault::NoMemory) => write_ending_of_outcome(Some(Err(LiveFault::Memory)), errors),
     }
-}
-
-/// Whether there are no words.
-fn has_no_words(words: &[String]) -> bool
-    ensures none { result ≡ true → words.now ≡ [] }
-    ensures some { result ≡ false → words.now ≢ [] }
-{
-    match words {
-        [] => true,
-        [_, ..] => false,
-    }
-}
-
-/// Answers the lines that the reader gives, where that is asked for; else None, and nothing is written.
-fn run_if_asked<R: Read + Drop, W: Write>(
-    alloc: Global,
-    is_asked: bool,
-    reader: R,
-    writer: &mut W,
-) -> Option<Result<(), LiveFault>>
-    ensures ran { IfSome result (λ outcome. IfSome (R.remaining reader) (λ octets.
-        Ran outcome octets (W.contents writer.old) (W.contents writer.new))) }
-    ensures runs { is_asked ≡ true → result ≢ None }
-    ensures none { is_asked ≡ false → result ≡ None }
-    ensures unwritten { IfNone result (writer.new ≡ writer.old) }
-{
-    if !is_asked {
-        return None;
-    }
-    Some(serve_reader(alloc, reader, writer))
 }
 
 /// Answers the lines that the reader gives.
