@@ -1,12 +1,9 @@
 //! The lines of who the other side is.
-ghost use Rattle.std.specs.Prelude.{◌≡◌, ◌++◌, ℕ, List, IfSome, IfNone, OnOk, codes};
-ghost use Rattle.std.specs.List.{flat_map};
+ghost use Rattle.std.specs.Prelude.{◌≡◌, ◌++◌, ℕ, List, IfSome, IfNone, IfOk, OnOk};
 ghost use Rattle.std.specs.Option.{option_copied};
 ghost use Rattle.std.specs.String.{string_bytes};
 ghost use Rattle.dm_wire.specs.declared.avp.Avp.{Avp};
-ghost use Rattle.dm_base.specs.Codes.{supported_vendor_id};
-ghost use Rattle.dm_base.specs.Kinds.{application_ids};
-ghost use Rattle.dm_base.specs.Senders.{HasAvps, numbers_told};
+ghost use Rattle.dm_base.specs.Senders.{HasAvps};
 ghost use Rattle.dm_slots.specs.Acquaintances.{exchange_in};
 ghost use Rattle.dm_live.specs.SenderLines.{IsSender, octets_line, number_line, number_lines, number_line_if_any};
 ghost use Rattle.dm_live.specs.SenderLines.{name_lines, version_lines, ability_lines};
@@ -15,9 +12,10 @@ ghost use Rattle.dm_live.specs.SenderLines.{exchange_lines, anew_line, sender_li
 use crate::form::Form;
 use crate::line_ends::{put_words_number_and_line_end, put_words_octets_and_line_end};
 use crate::order_words::only_neighbour_left;
-use dm_base::SenderRef;
+use dm_base::{IdList, SenderRef};
 use dm_slots::Acquaintance;
 use dm_text::Words;
+use dm_value::NoMemory;
 use std::alloc::{AllocError, Global};
 
 /// The number of the neighbour of which the line asks whom it met; None where it asks nothing such.
@@ -87,37 +85,18 @@ fn put_host_realm_and_product(text: &mut String, sender: SenderRef<'_>) -> Resul
     put_octets_line(text, "product", sender.product())
 }
 
-/// Appends the applications that the sender says, of whatever kind.
-fn put_application_ids(
-    alloc: Global,
+/// Appends a line of the name and an id for each of these, where there was memory for them.
+fn put_id_lines(
     text: &mut String,
-    sender: SenderRef<'_>,
+    name: &str,
+    ids: Result<IdList, NoMemory>,
 ) -> Result<(), AllocError>
-    ensures { (l : List Avp) → HasAvps sender.entry l → OnOk result (string_bytes text.new
-        ≡ string_bytes text.old ++ number_lines (codes "application") (flat_map application_ids l)) }
+    ensures { (l : List ℕ) → IfOk ids (λ ids. ids ≡ l)
+        → OnOk result (string_bytes text.new ≡ string_bytes text.old ++ number_lines name.now l) }
 {
-    match sender.applications(alloc) {
+    match ids {
         Ok(ids) => {
-            let done = put_number_lines(text, "application", ids.as_slice());
-            drop(ids);
-            done
-        }
-        Err(_) => Err(AllocError),
-    }
-}
-
-/// Appends the vendors that the sender supports.
-fn put_supported_vendors(
-    alloc: Global,
-    text: &mut String,
-    sender: SenderRef<'_>,
-) -> Result<(), AllocError>
-    ensures { (l : List Avp) → HasAvps sender.entry l → OnOk result (string_bytes text.new
-        ≡ string_bytes text.old ++ number_lines (codes "supports") (numbers_told supported_vendor_id l)) }
-{
-    match sender.vendors(alloc) {
-        Ok(ids) => {
-            let done = put_number_lines(text, "supports", ids.as_slice());
+            let done = put_number_lines(text, name, ids.as_slice());
             drop(ids);
             done
         }
@@ -145,8 +124,8 @@ fn put_applications_vendors_and_state(
     ensures { (l : List Avp) → HasAvps sender.entry l
         → OnOk result (string_bytes text.new ≡ string_bytes text.old ++ ability_lines l) }
 {
-    put_application_ids(alloc, text, sender)?;
-    put_supported_vendors(alloc, text, sender)?;
+    put_id_lines(text, "application", sender.applications(alloc))?;
+    put_id_lines(text, "supports", sender.vendors(alloc))?;
     put_number_line_if_any(text, "origin-state", sender.state_id())
 }
 
