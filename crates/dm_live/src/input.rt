@@ -5,7 +5,7 @@ ghost use Rattle.dm_live.specs.Input.{without_end, GivesLine, TakesPiece};
 
 use crate::fault::LiveFault;
 use memchr::memchr;
-use std::io::{BufRead, Error, ErrorKind};
+use std::io::{BufRead, ErrorKind};
 
 /// Reads the next line, without its end; false at the end of the input.
 ///
@@ -19,7 +19,9 @@ pub fn next_line<R: BufRead>(reader: &mut R, line: &mut Vec<u8>) -> Result<bool,
     line.clear();
     'piece: for _ in 0..u64::MAX {
         if extend_line(reader, line)? {
-            return Ok(remove_end_unless_empty(line));
+            let is_there = !line.is_empty();
+            remove_lf_or_crlf(line);
+            return Ok(is_there);
         }
     }
     Err(LiveFault::Read)
@@ -33,24 +35,19 @@ fn extend_line<R: BufRead>(reader: &mut R, line: &mut Vec<u8>) -> Result<bool, L
 {
     let octets = match reader.fill_buf() {
         Ok(octets) => octets,
-        Err(error) => return false_if_interrupted_else_fault(error),
+        Err(error) => {
+            return match error.kind() {
+                // The read is made again.
+                ErrorKind::Interrupted => Ok(false),
+                ErrorKind::OutOfMemory => Err(LiveFault::Memory),
+                _ => Err(LiveFault::Read),
+            };
+        }
     };
     let (end, done) = line_part_len_and_is_last(octets);
     line.extend_from_slice(&octets[..end])?;
     reader.consume(end);
     Ok(done)
-}
-
-/// Answers false where a read was interrupted, which is made again, and else why it failed.
-fn false_if_interrupted_else_fault(error: Error) -> Result<bool, LiveFault>
-    ensures again { IfOk result (λ done. done ≡ false) }
-    ensures fault { IfErr result (λ f. (f ≡ LiveFault.Read) ⊎ (f ≡ LiveFault.Memory)) }
-{
-    match error.kind() {
-        ErrorKind::Interrupted => Ok(false),
-        ErrorKind::OutOfMemory => Err(LiveFault::Memory),
-        _ => Err(LiveFault::Read),
-    }
 }
 
 /// How many octets there are up to the first LF and with it, or all of them; and whether that was it, or none are
@@ -66,19 +63,6 @@ fn line_part_len_and_is_last(octets: &[u8]) -> (usize, bool)
         Some(end) => (end + 1, true),
         None => (octets.len(), octets.is_empty()),
     }
-}
-
-/// Takes the end of a line off. False where there is none, as nothing was left.
-fn remove_end_unless_empty(line: &mut Vec<u8>) -> bool
-    ensures none { result ≡ false → length line.old.items ≡ 0 }
-    ensures some { result ≡ true → (0 < length line.old.items) }
-    ensures line { result ≡ true → line.new.items ≡ without_end line.old.items }
-{
-    if line.is_empty() {
-        return false;
-    }
-    remove_lf_or_crlf(line);
-    true
 }
 
 /// Takes the line's LF off, and a CR right before that.

@@ -1,12 +1,10 @@
 use Rattle.std.proofs.Common.{subst}
 use Rattle.std.specs.Io.BufRead.{FillKeeps}
-use Rattle.dm_live.proofs.Pieces.{took_none_anyway, took}
+use Rattle.dm_live.proofs.Pieces.{took_none, took}
 use Rattle.dm_live.proofs.input.extend_line.Goals as goal
 
-pub returns-in-Err-clause-taken : goal.returns-in-Err-clause-taken
-returns-in-Err-clause-taken g c =
-    took_none_anyway c.false_if_interrupted_else_fault.result _ _ c.args.line.now.items c.fill_buf.follows.holds-at-none.0
-    c.false_if_interrupted_else_fault.ensures.again
+pub returns-in-Interrupted-clause-taken : goal.returns-in-Interrupted-clause-taken
+returns-in-Interrupted-clause-taken g c = took_none _ _ c.args.line.now.items c.fill_buf.follows.holds-at-none.0
 
 pub returns-clause-taken : goal.returns-clause-taken
 returns-clause-taken g c =

@@ -1,4 +1,6 @@
-use Rattle.dm_live.proofs.Pieces.{reading_none, reading_more, read_through, line_or_end}
+use Rattle.std.proofs.Common.{rules}
+use Rattle.dm_live.proofs.FirstLine.{line_or_end}
+use Rattle.dm_live.proofs.Pieces.{reading_none, reading_more, read_through}
 use Rattle.dm_live.proofs.input.next_line.Goals as goal
 
 pub piece-init : goal.piece-init
@@ -9,6 +11,6 @@ piece-preserved g c = reading_more _ _ _ _ _ _ c.piece.invariant c.in_ok-extend_
 
 pub returns-then-branch-clause-given : goal.returns-then-branch-clause-given
 returns-then-branch-clause-given g c =
-    line_or_end _ _ _ _ _
+    line_or_end _ _ _ _ _ _
     (read_through _ _ _ _ _ _ c.piece.invariant c.in_ok-extend_line.ensures.taken c.if-branch.true)
-    c.remove_end_unless_empty.ensures.none c.remove_end_unless_empty.ensures.some c.remove_end_unless_empty.ensures.line
+    (search rules) c.is_empty-is_there.ensures c.remove_lf_or_crlf.ensures
