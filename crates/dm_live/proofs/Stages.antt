@@ -1,10 +1,7 @@
 -- What one line makes of a run.
-use Rattle.std.proofs.Common.{◌≡◌, inl, inr, ℕ, Bool, false, Result, Ok, Err, IfOk, OnOk}
+use Rattle.std.proofs.Common.{◌≡◌, inr, ℕ, Bool, false, Result, Ok, Err, IfOk, OnOk}
 use Rattle.std.proofs.Common.{is_ok, if◌then◌else◌}
-use Rattle.std.proofs.Common.{List, ◌++◌, ◌∷◌, [], Option, codes, ap, ◌∙◌, sym, subst, refl, append_assoc}
-use Rattle.dm_slots.specs.Acquaintances.{Acquaintance}
-use Rattle.dm_live.specs.declared.asked.Asked.{Asked}
-use Rattle.dm_node.specs.NodeKnown.{acquaintance_at}
+use Rattle.std.proofs.Common.{List, ◌++◌, ◌∷◌, [], codes, ap, ◌∙◌, sym, subst, refl, append_assoc}
 use Rattle.dm_value.specs.declared.address.Ip.{Ip}
 use Rattle.dm_live.specs.declared.setting_name.SettingName.{SettingName}
 use Rattle.dm_live.specs.declared.setting_name.SettingName.TheVariants as names
@@ -17,10 +14,8 @@ use Rattle.dm_live.specs.Drafts.{settings_of}
 use Rattle.dm_live.specs.Answers.{Answers}
 use Rattle.dm_live.specs.Meetings.{Meeting, meeting_of}
 use Rattle.dm_node.specs.declared.node.Node.{Node}
-use Rattle.dm_live.specs.OrderLines.{AskedOfNode, node_asked, TellsOrder}
-use Rattle.dm_live.specs.SenderLines.{IsSender, sender_answer}
-use Rattle.dm_live.specs.Served.{Stage, Drafting, Running, with_dot, bad_answer, IsGo, AnswersSetting, AnswersOrder, AnswersLine}
-use Rattle.dm_live.specs.Settings.{Settings, TellsAddress, Sets, TellsSetting}
+use Rattle.dm_live.specs.Served.{Stage, Drafting, Running, with_dot, IsGo, AnswersOrder, AnswersLine}
+use Rattle.dm_live.specs.Settings.{Settings, TellsAddress, Sets}
 use Rattle.dm_live.specs.Stages.{stage_at, stage_of, IsBegun}
 
 -- a word that tells no address sets none
@@ -32,48 +27,21 @@ no_address (Ok good) name word s is none =
     λ bad t sets. let P : SettingName → Type 0 = λ n. Sets n word s t in
     let so = subst P is sets in none bad so.0 so.1
 
--- an order's line, with the dot behind its answer
-pub told_line : {T E : Type 0} (r : Result T E) (n : ℕ) (form : Form) (o : Asked) (a : AskedOfNode) (line : List ℕ)
-    (s t : Meeting) (old mid new more : List ℕ) → TellsOrder form a line → node_asked o ≡ a → Answers form o s t more
-    → mid ≡ old ++ more → new ≡ (if is_ok r then mid ++ (codes "." ++ 10 ∷ []) else mid)
-    → OnOk r ((answer : List ℕ) × AnswersOrder n form line s t answer × (new ≡ old ++ answer))
-told_line (Err e) n form o a line s t old mid new more tells same answers is ends = tt
-told_line (Ok v) n form o a line s t old mid new more tells same answers is ends =
+-- what a line comes to, and its answer
+pub answers : {T E : Type 0} (r : Result T E) (Answers : List ℕ → Type 0) (old new answer : List ℕ) → Answers answer
+    → OnOk r (new ≡ old ++ answer) → OnOk r ((answer : List ℕ) × Answers answer × (new ≡ old ++ answer))
+answers (Err e) Answers old new answer so ends = tt
+answers (Ok v) Answers old new answer so ends = (answer, so, ends)
+
+-- with the dot behind it
+pub answers_with_dot : {T E : Type 0} (r : Result T E) (Answers : List ℕ → Type 0) (old mid new answer : List ℕ)
+    → Answers (with_dot answer) → mid ≡ old ++ answer
+    → new ≡ (if is_ok r then mid ++ (codes "." ++ 10 ∷ []) else mid)
+    → OnOk r ((answer : List ℕ) × Answers answer × (new ≡ old ++ answer))
+answers_with_dot (Err e) Answers old mid new answer so is ends = tt
+answers_with_dot (Ok v) Answers old mid new answer so is ends =
     let dot : List ℕ = codes "." ++ 10 ∷ [] in
-    let Tells : AskedOfNode → Type 0 = λ v. TellsOrder form v line in (
-      with_dot more,
-      inl (o, more, subst Tells (sym same) tells, answers, refl),
-      ends ∙ ap (λ v. v ++ dot) is ∙ append_assoc old more dot,
-    )
-
--- a line that tells no order
-pub untold_line : {T E : Type 0} (r : Result T E) (n : ℕ) (form : Form) (line : List ℕ) (s : Meeting)
-    (old new : List ℕ) → ((i : ℕ) → IsSender form i line → ⊥)
-    → ((o : Asked) → TellsOrder form (node_asked o) line → ⊥) → OnOk r (new ≡ old ++ bad_answer n)
-    → OnOk r ((answer : List ℕ) × AnswersOrder n form line s s answer × (new ≡ old ++ answer))
-untold_line (Err e) n form line s old new other none ends = tt
-untold_line (Ok v) n form line s old new other none ends = (bad_answer n, inr (inr (other, none, refl, refl)), ends)
-
--- a line that asks whom a neighbour met
-pub sender_line : {T E : Type 0} (r : Result T E) (n : ℕ) (form : Form) (i : ℕ) (line : List ℕ) (s : Meeting)
-    (a : Option Acquaintance) (old mid new : List ℕ) → IsSender form i line → a ≡ acquaintance_at s.known i
-    → mid ≡ old ++ sender_answer a → new ≡ (if is_ok r then mid ++ (codes "." ++ 10 ∷ []) else mid)
-    → OnOk r ((answer : List ℕ) × AnswersOrder n form line s s answer × (new ≡ old ++ answer))
-sender_line (Err e) n form i line s a old mid new asks at is ends = tt
-sender_line (Ok v) n form i line s a old mid new asks at is ends =
-    let dot : List ℕ = codes "." ++ 10 ∷ [] in
-    let said = sender_answer (acquaintance_at s.known i) in (
-      with_dot said,
-      inr (inl (i, asks, refl, refl)),
-      ends ∙ ap (λ v. v ++ dot) (is ∙ ap (λ v. old ++ sender_answer v) at) ∙ append_assoc old said dot,
-    )
-
--- a line that says nothing
-pub bad_line : {T E : Type 0} (r : Result T E) (n : ℕ) (line : List ℕ) (s t : Settings) (old new : List ℕ)
-    → (IsGo line → ⊥) → ((u : Settings) → TellsSetting line s u → ⊥) → t ≡ s → OnOk r (new ≡ old ++ bad_answer n)
-    → OnOk r ((answer : List ℕ) × AnswersSetting n line s t answer × (new ≡ old ++ answer))
-bad_line (Err e) n line s t old new go none kept ends = tt
-bad_line (Ok v) n line s t old new go none kept ends = (bad_answer n, inr (go, none, kept, refl), ends)
+    (with_dot answer, so, ends ∙ ap (λ v. v ++ dot) is ∙ append_assoc old answer dot)
 
 -- the line that ends the configuration
 going : (n : ℕ) (line : List ℕ) (s : Settings) (begun : Begun) (answer : List ℕ) → IsGo line

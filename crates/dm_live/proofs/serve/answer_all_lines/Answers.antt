@@ -1,6 +1,6 @@
 use Rattle.std.proofs.Common.{inr, inl, refl}
-use Rattle.dm_live.specs.declared.fault.LiveFault.TheVariants.{Memory, Write}
-use Rattle.dm_live.proofs.Serving.{handed_on, stopped, line_answered, line_unwritten, lines_answered}
+use Rattle.dm_live.specs.declared.fault.LiveFault.TheVariants.{Memory}
+use Rattle.dm_live.proofs.Serving.{handed_on, line_said, served_all, served_more, stopped, stopped_writing}
 use Rattle.dm_live.proofs.serve.answer_all_lines.Goals as goal
 
 pub returns-in_err-next_line-clause-stopped : goal.returns-in_err-next_line-clause-stopped
@@ -10,7 +10,7 @@ returns-in_err-next_line-clause-stopped g c =
 
 pub returns-then-not-branch-clause-whole : goal.returns-then-not-branch-clause-whole
 returns-then-not-branch-clause-whole g c =
-    lines_answered _ _ _ _ _ _ _ _ _ c.line.invariant c.in_ok-next_line.ensures.given c.if-not-branch.true
+    served_all _ _ _ _ _ _ _ _ _ c.line.invariant c.in_ok-next_line.ensures.given c.if-not-branch.true
 
 pub returns-in_err-answer_line-clause-stopped : goal.returns-in_err-answer_line-clause-stopped
 returns-in_err-answer_line-clause-stopped g c =
@@ -19,15 +19,17 @@ returns-in_err-answer_line-clause-stopped g c =
 
 pub returns-in-Err-clause-stopped : goal.returns-in-Err-clause-stopped
 returns-in-Err-clause-stopped g c =
-    line_unwritten _ _ _ _ _ _ _ _ _ _ _ _ _ _ _ Write c.line.invariant c.in_ok-next_line.ensures.given
-    c.if-not-branch.false c.as_slice.ensures.value c.in_ok-answer_line.ensures c.clear.ensures.bytes
-    c.as_bytes.ensures.value c.in-Err.ensures.front refl
+    stopped_writing _ _ _ _ _ _ _ _ _ _ _ _ c.line.invariant c.in_ok-next_line.ensures.given c.if-not-branch.false
+    (line_said _ _ _ _ _ _ _ _ c.as_slice.ensures.value c.in_ok-answer_line.ensures c.clear.ensures.bytes
+    c.as_bytes.ensures.value)
+    c.in-Err.ensures.front
 
 pub line-preserved : goal.line-preserved
 line-preserved g c =
-    line_answered _ _ _ _ _ _ _ _ _ _ _ _ _ _ _ c.line.invariant c.in_ok-next_line.ensures.given
-    c.if-not-branch.false c.as_slice.ensures.value c.in_ok-answer_line.ensures c.clear.ensures.bytes
-    c.as_bytes.ensures.value c.in-Ok.ensures.whole
+    served_more _ _ _ _ _ _ _ _ _ _ _ _ c.line.invariant c.in_ok-next_line.ensures.given c.if-not-branch.false
+    (line_said _ _ _ _ _ _ _ _ c.as_slice.ensures.value c.in_ok-answer_line.ensures c.clear.ensures.bytes
+    c.as_bytes.ensures.value)
+    c.in-Ok.ensures.whole
 
 pub returns-clause-stopped : goal.returns-clause-stopped
 returns-clause-stopped g c = stopped _ _ _ _ _ _ _ c.line.invariant (inl refl)
