@@ -278,29 +278,37 @@ impl Slots {
         }
     }
 
-    /// True only where the connection is there and takes messages of at most `max` octets already. Where it stands is
-    /// noted, so as to be looked at first.
+    /// True only where the connection is looked at first and takes messages of at most `max` octets already.
     #[inline(always)]
-    fn has_max_message_len(&mut self, conn: Conn, max: u32) -> bool
-        ensures raised { result ≡ true → (i : OneIntake) × (intakes_of self.old conn.0 ≡ Some i) × (i.max ≡ max) }
-        ensures same { intakes_of self.new ≡ intakes_of self.old }
-        ensures owners { owners_of self.new ≡ owners_of self.old }
+    fn has_max_message_len(&self, conn: Conn, max: u32) -> bool
+        ensures { result ≡ true → (i : OneIntake) × (intakes_of self.now conn.0 ≡ Some i) × (i.max ≡ max) }
     {
-        self.look_first_at(conn);
-        let Some(intake) = self.intake(conn) else {
-            return false;
-        };
-        intake.max_message_len() == max
+        match self.map.get_index(self.last) {
+            Some((number, slot)) if *number == conn.0 => slot.intake.max_message_len() == max,
+            _ => false,
+        }
     }
 
     /// The connection, where it is there, takes messages of at most `max` octets.
-    #[inline(never)]
     fn set_max_message_len(&mut self, conn: Conn, max: u32)
         ensures raised { intakes_of self.new ≡ raised_at max (Some conn) (intakes_of self.old) }
         ensures owners { owners_of self.new ≡ owners_of self.old }
     {
         if let Some(slot) = self.map.get_mut(&conn.0) {
             slot.intake.set_max_message_len(max);
+        }
+    }
+
+    /// Searches for the connection and notes where it stands. Where it is there it takes messages of at most `max`
+    /// octets.
+    #[inline(never)]
+    fn search_and_set_max_message_len(&mut self, conn: Conn, max: u32)
+        ensures raised { intakes_of self.new ≡ raised_at max (Some conn) (intakes_of self.old) }
+        ensures owners { owners_of self.new ≡ owners_of self.old }
+    {
+        self.search_and_look_first_at(conn);
+        if !self.has_max_message_len(conn, max) {
+            self.set_max_message_len(conn, max);
         }
     }
 
@@ -312,7 +320,7 @@ impl Slots {
     {
         if let Some(conn) = conn {
             if !self.has_max_message_len(conn, max) {
-                self.set_max_message_len(conn, max);
+                self.search_and_set_max_message_len(conn, max);
             }
         }
     }

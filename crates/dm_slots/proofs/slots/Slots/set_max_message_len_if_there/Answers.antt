@@ -8,6 +8,6 @@ use Rattle.dm_slots.proofs.slots.Slots.set_max_message_len_if_there.Goals as goa
 pub returns-else-not-has_max_message_len-clause-raised : goal.returns-else-not-has_max_message_len-clause-raised
 returns-else-not-has_max_message_len-clause-raised c =
     let old = intakes_of c.args.self.now in
-    let at = c.has_max_message_len.ensures.raised c.if-not-has_max_message_len.false in
-    c.has_max_message_len.ensures.same ∙ sym (ap (λ o. raised_at c.args.max o old) c.in-Some.is
+    let at = c.has_max_message_len.ensures c.if-not-has_max_message_len.false in
+    sym (ap (λ o. raised_at c.args.max o old) c.in-Some.is
     ∙ raised_before c.in-Some.conn c.args.max at.0 old at.1 at.2)
