@@ -1,7 +1,8 @@
 -- Whose the connections are after one neighbour changed.
-use Rattle.std.proofs.Common.{◌≡◌, ℕ, Bool, true, false, ◌||◌, cond, if◌then◌else◌, List, [], ◌∷◌, ◌++◌, Option, None, Some, IsSome, IfSome, IfNone, refl, sym, ap, subst, ◌∙◌, inl, inr}
+use Rattle.std.proofs.Common.{◌≡◌, ℕ, Bool, Bor, true, false, true≢false, ◌||◌, cond, if◌then◌else◌, List, [], ◌∷◌, ◌++◌, Option, None, Some, IsSome, IfSome, IfNone, refl, sym, ap, subst, ◌∙◌, inl, inr}
 use Rattle.std.proofs.lemmas.Bool.{cases_eq, eq-eqb, false_from_ne_true, or_left, or_right}
 use Rattle.dm_machine.specs.declared.connection.Conn.{Conn}
+use Rattle.dm_machine.specs.Moves.{is_open}
 use Rattle.dm_peer.specs.After.{fresh_standing}
 use Rattle.dm_peer.specs.declared.peer.Peer.{Peer}
 use Rattle.dm_peer.specs.Places.{is_on}
@@ -9,9 +10,13 @@ use Rattle.dm_slots.specs.Held.{Owners, owned_by, disowned_by}
 use Rattle.dm_slots.specs.Intakes.{is_conn_number}
 use Rattle.dm_node.specs.declared.owners.Holding.{Holding}
 use Rattle.dm_node.specs.Holding.{peer_at, holds_it, holds_at, AreApart}
+use Rattle.dm_node.specs.Neighbourhoods.{IsNeighbourhood}
+use Rattle.dm_node.specs.NodeKnown.{peer_state}
 use Rattle.dm_node.specs.NodeStates.{concerned_in}
 use Rattle.dm_node.specs.Owning.{has, owned_after, AreOwned, IsResettled, IsReowned}
-use Rattle.dm_node.specs.Telling.{IsFree}
+use Rattle.dm_node.specs.Policies.{Policy}
+use Rattle.dm_node.specs.Telling.{IsFree, IsHolder, IsWhose}
+use Rattle.dm_node.specs.declared.events.NodeEvent.TheVariants as event
 use Rattle.dm_node.proofs.Growing.{still}
 use Rattle.dm_node.proofs.Places.{kept_at}
 use Rattle.dm_node.proofs.Basics.{one_some, no_some, two_truths}
@@ -41,6 +46,19 @@ pub unowned_free : (ps : List (Option Peer)) (f : Owners) (c : Conn) (r : Option
 unowned_free ps f c (Some i) is owned = tt
 unowned_free ps f c None is owned = λ j.
     false_from_ne_true (holds_at ps c j) (λ held. no_some _ (is ∙ owned.owned c j held))
+
+-- what comes on a connection is for the neighbour that holds it, where that is open
+pub whose_holder : (policy : Policy) (ps : List (Option Peer)) (c : Conn) (octets : Bor (List ℕ)) (holder : Option ℕ) →
+    IsNeighbourhood ps → IsHolder ps c holder → is_open (peer_state (concerned_in ps holder)) ≡ true →
+    IsWhose policy ps (event.Arrived c octets) holder
+whose_holder policy ps c octets None apart is stood = absurd (true≢false (sym stood))
+whose_holder policy ps c octets (Some i) apart is stood = record {
+  there = holder_there ps c i is.found;
+  concerned = inl is.found;
+  nobody = tt;
+  alone = λ j d names held.
+      apart.apart.one j i c (subst (λ x. holds_at ps x j ≡ true) (sym (one_some c d names)) held) is.found;
+}
 
 module _ (ps qs : List (Option Peer)) (i : ℕ) (before after : Holding) (f : Owners) (apart : AreApart qs)
     (settled : IsResettled ps qs i before) (holds : (c : Conn) → has after c ≡ holds_at qs c i) (owned : AreOwned f ps)

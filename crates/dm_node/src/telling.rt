@@ -147,10 +147,9 @@ pub(crate) fn tell_message<S: Strangers>(
 {
     neighbours_are_apart_and_sound(neighbours);
     let event = NodeEvent::Arrived(conn, octets);
-    let who = neighbour_for_arrived_octets(neighbours, strangers, holder, conn, octets);
-    if let Some(on) = neighbours.open_connection(who) {
+    if let Some(on) = neighbours.open_connection(holder) {
         return match tell_neighbour_or_handle_stranger(
-            alloc, own, neighbours, strangers, who, event, answer,
+            alloc, own, neighbours, strangers, holder, event, answer,
         ) {
             Ok(()) => Ok(ToSettle {
                 before: holding_one(on),
@@ -159,6 +158,7 @@ pub(crate) fn tell_message<S: Strangers>(
             Err(_) => Err(AllocError),
         };
     }
+    let who = neighbour_for_arrived_octets(neighbours, strangers, holder, conn, octets);
     let before = neighbours.snapshot(who);
     let exchange = match copy_and_reserve_if_exchange(alloc, known, before.state, octets) {
         Ok(exchange) => exchange,

@@ -7,35 +7,44 @@ use Rattle.dm_node.specs.NodeKnown.{known_of, peer_state}
 use Rattle.dm_node.specs.NodeStates.{concerned_in}
 use Rattle.dm_node.proofs.NodeKnowing.{state_looked, meets, known_moved, room_for, is_copied, open_meets}
 use Rattle.dm_node.specs.Owning.{one_held, IsReowned}
+use Rattle.dm_node.proofs.Owned.{whose_holder}
 use Rattle.dm_node.proofs.Reowned.{held_looked, reowned_moved}
 use Rattle.dm_node.proofs.telling.tell_message.Goals as goal
+
+-- who holds a connection and is open is told what comes on it
+pub tell_neighbour_or_handle_stranger-requires-clause-whose : goal.tell_neighbour_or_handle_stranger-requires-clause-whose
+tell_neighbour_or_handle_stranger-requires-clause-whose g c =
+    whose_holder (g.S.Strangers.policy c.args.strangers.now) c.args.neighbours.now c.args.conn c.args.octets c.args.holder
+    c.neighbours_are_apart_and_sound.ensures.apart c.requires.holder c.in-Some.ensures.state
 
 pub returns-in-Ok-clause-met : goal.returns-in-Ok-clause-met
 returns-in-Ok-clause-met g c =
     let policy = g.S.Strangers.policy c.args.strangers.now in
     let ps = c.args.neighbours.now in
-    let looked = state_looked policy ps (event.Arrived c.args.conn c.args.octets) c.neighbour_for_arrived_octets-who.result _
-    c.neighbours_are_apart_and_sound.ensures.apart c.neighbour_for_arrived_octets-who.ensures.found c.neighbour_for_arrived_octets-who.ensures.none
-    refl in
+    let whose = whose_holder policy ps c.args.conn c.args.octets c.args.holder
+    c.neighbours_are_apart_and_sound.ensures.apart c.requires.holder c.in-Some.ensures.state in
+    let looked = state_looked policy ps (event.Arrived c.args.conn c.args.octets) c.args.holder _
+    c.neighbours_are_apart_and_sound.ensures.apart whose.concerned whose.nobody refl in
     open_meets policy c.args.conn c.args.octets.now c.args.own.now ps c.tell_neighbour_or_handle_stranger.new.neighbours
     c.tell_neighbour_or_handle_stranger.new.answer.neighbour c.tell_neighbour_or_handle_stranger.new.answer.actions.items (known_of c.args.known.now)
-    (peer_state (concerned_in ps c.neighbour_for_arrived_octets-who.result)) c.requires.places looked c.in-Ok.ensures.told
+    (peer_state (concerned_in ps c.args.holder)) c.requires.places looked c.in-Ok.ensures.told
     c.in-Some.ensures.state
 
 pub returns-in-Ok-clause-places : goal.returns-in-Ok-clause-places
 returns-in-Ok-clause-places g c =
     let policy = g.S.Strangers.policy c.args.strangers.now in
     let ps = c.args.neighbours.now in
-    let looked = state_looked policy ps (event.Arrived c.args.conn c.args.octets) c.neighbour_for_arrived_octets-who.result _
-    c.neighbours_are_apart_and_sound.ensures.apart c.neighbour_for_arrived_octets-who.ensures.found c.neighbour_for_arrived_octets-who.ensures.none
-    refl in
+    let whose = whose_holder policy ps c.args.conn c.args.octets c.args.holder
+    c.neighbours_are_apart_and_sound.ensures.apart c.requires.holder c.in-Some.ensures.state in
+    let looked = state_looked policy ps (event.Arrived c.args.conn c.args.octets) c.args.holder _
+    c.neighbours_are_apart_and_sound.ensures.apart whose.concerned whose.nobody refl in
     known_moved (λ state q a. known_at c.args.conn state q c.args.octets.now a) policy c.args.conn c.args.octets.now
     c.args.own.now ps c.tell_neighbour_or_handle_stranger.new.neighbours c.tell_neighbour_or_handle_stranger.new.answer.neighbour
     c.tell_neighbour_or_handle_stranger.new.answer.actions.items (known_of c.args.known.now) (known_of c.args.known.now) c.requires.places
     c.in-Ok.ensures.told
     (open_meets policy c.args.conn c.args.octets.now c.args.own.now ps c.tell_neighbour_or_handle_stranger.new.neighbours
     c.tell_neighbour_or_handle_stranger.new.answer.neighbour c.tell_neighbour_or_handle_stranger.new.answer.actions.items (known_of c.args.known.now)
-    (peer_state (concerned_in ps c.neighbour_for_arrived_octets-who.result)) c.requires.places looked c.in-Ok.ensures.told
+    (peer_state (concerned_in ps c.args.holder)) c.requires.places looked c.in-Ok.ensures.told
     c.in-Some.ensures.state)
 
 pub returns-in-Err-clause-memory : goal.returns-in-Err-clause-memory
@@ -46,9 +55,10 @@ pub returns-in-Ok-clause-before : goal.returns-in-Ok-clause-before
 returns-in-Ok-clause-before g c =
     let policy = g.S.Strangers.policy c.args.strangers.now in
     let ps = c.args.neighbours.now in
-    let looked = held_looked policy ps (event.Arrived c.args.conn c.args.octets) c.neighbour_for_arrived_octets-who.result _
-    c.neighbours_are_apart_and_sound.ensures.apart c.neighbour_for_arrived_octets-who.ensures.found c.neighbour_for_arrived_octets-who.ensures.none
-    c.in-Some.ensures.held in
+    let whose = whose_holder policy ps c.args.conn c.args.octets c.args.holder
+    c.neighbours_are_apart_and_sound.ensures.apart c.requires.holder c.in-Some.ensures.state in
+    let looked = held_looked policy ps (event.Arrived c.args.conn c.args.octets) c.args.holder _
+    c.neighbours_are_apart_and_sound.ensures.apart whose.concerned whose.nobody c.in-Some.ensures.held in
     subst (IsReowned ps c.tell_neighbour_or_handle_stranger.new.neighbours c.tell_neighbour_or_handle_stranger.new.answer.neighbour)
     (sym c.holding_one.ensures)
     (reowned_moved policy c.args.conn c.args.octets.now c.args.own.now ps
