@@ -4,7 +4,7 @@
 //! driver WHO OPERATION INPUT TIMES [SIZE]
 //! driver agree INPUT TIMES
 //! driver mix DICTIONARY MESSAGES TIMES
-//! driver heard|kept|heard-by-turns|kept-by-turns|alone alive|credit|tick TIMES NEIGHBOURS
+//! driver heard|kept|heard-by-turns|kept-by-turns|alone|by-hand-by-turns alive|credit|tick TIMES NEIGHBOURS
 //! driver heard|kept watchdogs TIMES NEIGHBOURS SIZE
 //! driver neighbours add|added|opened NEIGHBOURS
 
@@ -65,6 +65,18 @@ extern "C" {
         octets_len: usize,
         size: usize,
         hears: bool,
+        times: u32,
+    ) -> usize;
+    #[cfg(node)]
+    fn ours_by_hand(
+        hosts: *const u8,
+        len: usize,
+        calls: *const u8,
+        calls_len: usize,
+        call: usize,
+        octets: *const u8,
+        octets_len: usize,
+        ticks: bool,
         times: u32,
     ) -> usize;
     #[cfg(node)]
@@ -320,6 +332,15 @@ fn alone(octets: &[u8], ticks: bool, times: u32, size: usize) -> usize {
     unsafe { ours_alone(host.as_ptr(), host.len(), first.as_ptr(), first.len(), at, len, ticks, times) }
 }
 
+/// Peers by hand are told the same, each in turn.
+#[cfg(node)]
+fn by_hand(hosts: &[u8], calls: &[u8], octets: &[u8], ticks: bool, times: u32) -> usize {
+    let call = calls.len() / (hosts.len() / 15);
+    let (at, len, calls, calls_len) = (hosts.as_ptr(), hosts.len(), calls.as_ptr(), calls.len());
+    // As above.
+    unsafe { ours_by_hand(at, len, calls, calls_len, call, octets.as_ptr(), octets.len(), ticks, times) }
+}
+
 /// A number of kilobytes that the system says of this program.
 #[cfg(node)]
 fn kilobytes(name: &str) -> usize {
@@ -336,13 +357,14 @@ fn memory(operation: impl FnOnce() -> usize) -> usize {
     (kilobytes("VmHWM:") - before) * 1024
 }
 
-/// What comes of a node of many neighbours, or of a peer alone.
+/// What comes of a node of many neighbours, or of a peer alone, or of many by hand.
 #[cfg(node)]
 fn of_node(who: &str, event: &str, times: u32, neighbours: usize, size: usize) -> usize {
     let (octets, ticks) = (input(if event == "tick" { "credit" } else { event }, 0), event == "tick");
     let (hosts, calls) = neighbourhood(neighbours);
     match (who, event) {
         ("alone", _) => alone(&octets, ticks, times, neighbours),
+        ("by-hand-by-turns", _) => by_hand(&hosts, &calls, &octets, ticks, times),
         (_, "watchdogs") => node_stream(&hosts, &calls, &octets, size, who == "heard", times),
         _ => node(&hosts, &calls, &octets, who, ticks, times),
     }
