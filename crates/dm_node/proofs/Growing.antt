@@ -8,7 +8,7 @@ use Rattle.dm_peer.specs.declared.standing.Standing.{Standing}
 use Rattle.dm_history.specs.History.{new_peer}
 use Rattle.dm_peer.specs.After.{fresh_standing}
 use Rattle.dm_machine.specs.Connection.{hold_of}
-use Rattle.dm_node.specs.Holding.{is_held, holds, holds_it, holds_at, host_of, host_at, AreApart, AreUnlike}
+use Rattle.dm_node.specs.Holding.{is_held, holds, holds_it, holds_at, host_of, host_at, AreUnlike}
 use Rattle.dm_node.proofs.Basics.{two_truths}
 use Rattle.dm_node.proofs.Places.{grown_cases}
 
@@ -35,18 +35,6 @@ unlike_grown ps y host is none unlike = record {
   where
     own : host_of (Some y) ≡ Some (lower host)
     own = ap (λ z. Some (lower z)) is
-
-past_none : (i : ℕ) (c : Conn) → holds_at [] c i ≡ true → ⊥
-past_none i c h = cc
-
-pub apart_none : AreApart []
-apart_none = record { one = λ i j c h g. absurd (past_none i c h) }
-
-none_named : (i : ℕ) (h : List ℕ) → host_at [] i ≡ Some h → ⊥
-none_named i h e = cc
-
-pub unlike_none : AreUnlike []
-unlike_none = record { one = λ i j h p q. absurd (none_named i h p) }
 
 -- what a new peer is
 pub made : (y : Peer) (k : Config) → y.config ≡ k → y.standing ≡ fresh_standing k.first_id → y ≡ new_peer k k.first_id

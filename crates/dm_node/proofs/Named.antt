@@ -1,5 +1,5 @@
 -- The look-up of hosts: what is found in it, and what keeps it.
-use Rattle.std.proofs.Common.{◌≡◌, ◌≤◌, ℕ, suc, Bool, true, false, nat_le, List, [], ◌∷◌, length, Option, None, Some, IsSome, IfSome, IfNone, if◌then◌else◌, refl, sym, ap, subst, ◌∙◌, arith}
+use Rattle.std.proofs.Common.{◌≡◌, ℕ, suc, Bool, true, false, nat_le, List, [], ◌∷◌, length, Option, None, Some, IsSome, IfSome, IfNone, if◌then◌else◌, refl, sym, ap, subst, ◌∙◌}
 use Rattle.std.proofs.lemmas.Bool.{and_parts}
 use Rattle.dm_base.specs.Before.{lower}
 use Rattle.dm_base.specs.Codes.{max_name_len}
@@ -13,9 +13,6 @@ use Rattle.dm_node.proofs.Basics.{one_some, no_some, two_truths}
 -- the host of a configuration isn't too long to be noted
 pub fits : (c : Config) → nat_le (length c.peer) max_name_len ≡ true
 fits c = (and_parts _ _ c.fit_peer).1
-
-pub at_most : (n m : ℕ) → nat_le n m ≡ true → n ≤ m
-at_most n m e = grind arith
 
 same_length : (h : List ℕ) → length (lower h) ≡ length h
 same_length [] = refl

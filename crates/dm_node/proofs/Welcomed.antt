@@ -13,13 +13,11 @@ use Rattle.dm_peer.specs.declared.fault.ConfigFault.{ConfigFault}
 use Rattle.dm_peer.specs.declared.peer.Peer.{Peer}
 use Rattle.dm_node.specs.Calling.{Caller, caller_of, answer_to}
 use Rattle.dm_node.specs.Holding.{peer_at, holds, holds_it, holds_at, AreApart}
-use Rattle.dm_node.specs.Owning.{has, IsResettled}
 use Rattle.dm_node.specs.Policies.{Policy, IsMadeFor, IsUnfit, MakesFor, MakesNoneFor}
 use Rattle.dm_node.specs.Strangers.{present, IsPermitted, IsForbidden, Joins, StaysOut, NodeMoves, TellsConcerned, NodeIsTold}
 use Rattle.dm_node.specs.Telling.{Concerns, IsAddressed, IsFree, PeerIsTold, told_of}
 use Rattle.dm_node.specs.declared.events.NodeEvent.{NodeEvent}
 use Rattle.dm_node.specs.declared.events.NodeEvent.TheVariants as event
-use Rattle.dm_node.specs.declared.owners.Holding.{Holding}
 use Rattle.dm_node.proofs.Basics.{one_inside, two_truths}
 use Rattle.dm_node.proofs.Places.{grown_here, grown_else, grown_cases, longer}
 
@@ -61,13 +59,6 @@ apart_admitted ps y free apart = record {
       (λ g. absurd (two_truths (holds_at ps c j) g (free c j h))))
       (λ h. grown_cases (λ o. holds_it c o ≡ true → i ≡ j) ps (Some y) j
       (λ also g. absurd (two_truths (holds_at ps c i) h (free c i g))) (apart.one i j c h));
-}
-
-pub resettled_admitted : (ps qs : List (Option Peer)) (y : Peer) (i : ℕ) (before : Holding) → i ≡ length ps →
-    qs ≡ ps ++ Some y ∷ [] → ((c : Conn) → has before c ≡ holds_at ps c i) → IsResettled ps qs i before
-resettled_admitted ps qs y i before here is held = record {
-  held = held;
-  others = λ j un. ap (λ l. peer_at l j) is ∙ grown_else ps (Some y) j (λ q. un (q ∙ sym here));
 }
 
 pub if_some : {A : Type 0} {P Q : A → Type 0} (o : Option A) → ((a : A) → P a → Q a) → IfSome o P → IfSome o Q
