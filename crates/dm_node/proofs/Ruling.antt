@@ -1,15 +1,17 @@
 -- What the rules say of an event, whatever memory there is.
-use Rattle.std.proofs.Common.{◌≡◌, inl, inr, ℕ, true, false, Bool, if◌then◌else◌, Option, None, Some, option_map, Result, Ok, Err, IfSome, IfErr, IsTrue, List, refl, sym, ap, ◌∙◌, subst}
+use Rattle.std.proofs.Common.{◌≡◌, ◌⊎◌, inl, inr, ℕ, true, false, Bool, if◌then◌else◌, Option, None, Some, option_map, Result, Ok, Err, IfSome, IfErr, IsTrue, List, refl, sym, ap, ◌∙◌, subst}
+use Rattle.std.specs.Prelude.{⊤}
 use Rattle.dm_machine.specs.declared.connection.Conn.{Conn}
 use Rattle.dm_machine.specs.declared.state_name.State.{State}
 use Rattle.dm_machine.specs.declared.state_name.State.TheVariants as state
 use Rattle.dm_machine.specs.Moves.{is_open}
-use Rattle.dm_node.specs.Declining.{IsRuledOut, IsDirected, IsByRule, IsDeclinedHere, GoesByRule, GoesByAllRules, EventTakesMemory, refused_with}
+use Rattle.dm_node.specs.Declining.{IsRuledOut, IsDirected, IsByRule, IsDeclinedHere, GoesByRule, GoesByAllRules, EventTakesMemory}
 use Rattle.dm_node.specs.Holding.{peer_at}
 use Rattle.dm_node.specs.Neighbourhoods.{IsNeighbourhood}
 use Rattle.dm_node.specs.NodeHeld.{AreKept}
+use Rattle.dm_node.specs.NodeOrders.{OrderGoesByRules}
 use Rattle.dm_node.specs.Policies.{Policy, no_strangers}
-use Rattle.dm_node.specs.Telling.{Concerns, IsMisdirected, IsRefusedHere, IsStrangeCer, told_of}
+use Rattle.dm_node.specs.Telling.{Concerns, IsRefusedHere, IsStrangeCer, told_of}
 use Rattle.dm_node.specs.declared.events.NodeEvent.{NodeEvent}
 use Rattle.dm_node.specs.declared.events.NodeEvent.TheVariants as event
 use Rattle.dm_node.specs.declared.fault.OrderFault.{OrderFault}
@@ -25,21 +27,6 @@ use Rattle.dm_wire.specs.Whole.{message_in}
 use Rattle.dm_node.proofs.Concerned.{one_there}
 use Rattle.dm_node.proofs.Declined.{rule_of}
 use Rattle.dm_node.proofs.Basics.{one_some, no_some, not_done, same_fault}
-
--- a neighbour refuses, or nobody is named: a misdirected event is no neighbour's refusal
-pub never_of_peer : (ps : List (Option Peer)) (e : NodeEvent) (f : PeerFault) → IsMisdirected ps e (fault.Peer f) → ⊥
-never_of_peer ps (event.Start m c) f h = h
-never_of_peer ps e f h = h
-
-pub misdirected_by_rule : (policy : Policy) (ps : List (Option Peer)) (e : NodeEvent) (f : OrderFault) →
-    IsMisdirected ps e f → IsByRule policy ps e f
-misdirected_by_rule policy ps e (fault.Peer f) h = absurd (never_of_peer ps e f h)
-misdirected_by_rule policy ps e fault.NoNeighbour h = h
-
-pub misdirected_declined : (policy : Policy) (ps : List (Option Peer)) (e : NodeEvent) (f : OrderFault) →
-    IsMisdirected ps e f → IsDeclinedHere policy ps e f
-misdirected_declined policy ps e (fault.Peer f) h = absurd (never_of_peer ps e f h)
-misdirected_declined policy ps e fault.NoNeighbour h = h
 
 -- no rule refuses for want of memory
 starts : (s : State) → start_refusal s ≡ Some NoMemory → ⊥
@@ -98,47 +85,11 @@ none_goes S policy ps e r none memory =
       by (Ok a) h = tt
       by (Err f) h = subst (IsByRule policy ps e) (sym h.0) (inl refl)
 
--- what is misdirected goes by the rules as such
-pub misdirected_goes : {A : Type 0} (policy : Policy) (ps : List (Option Peer)) (e : NodeEvent) (f : OrderFault) →
-    IsMisdirected ps e f → ((g : OrderFault) → IsMisdirected ps e g → f ≡ g) →
-    GoesByAllRules {A = A} policy ps e (Err f)
-misdirected_goes policy ps e f wrong one =
-    record {
-      misdirected = λ g h. ap Err (one g h);
-      by_rule = record {
-        refuses = λ i g directed concerned out. absurd (directed f wrong);
-        ruled = misdirected_by_rule policy ps e f wrong;
-      };
-    }
-
--- and what isn't, as the neighbour that it concerns refuses it
-pub directed_goes : {A : Type 0} (policy : Policy) (ps : List (Option Peer)) (e : NodeEvent) (r : Result A OrderFault) →
-    IsDirected ps e → GoesByRule policy ps e r → GoesByAllRules policy ps e r
-directed_goes policy ps e r directed by =
-    record { misdirected = λ f wrong. absurd (directed f wrong); by_rule = by }
-
--- where they don't refuse it memory alone may be wanted
-pub unruled_goes : {A B : Type 0} (policy : Policy) (ps : List (Option Peer)) (e : NodeEvent) (b : B) →
-    GoesByAllRules policy ps e (Ok b) → GoesByAllRules {A = A} policy ps e (Err (fault.Peer NoMemory))
-unruled_goes policy ps e b rules =
-    record {
-      misdirected = λ f wrong. not_done b f (Ok b) refl (rules.misdirected f wrong);
-      by_rule = record {
-        refuses = λ i f directed concerned out.
-            not_done b (fault.Peer f) (Ok b) refl (rules.by_rule.refuses i f directed concerned out);
-        ruled = inl refl;
-      };
-    }
-
 -- A Start.
 
-pub nobody_goes : {A : Type 0} (ps : List (Option Peer)) (n : ℕ) (c : Conn) → peer_at ps n ≡ None →
-    GoesByAllRules {A = A} no_strangers ps (event.Start n c) (Err fault.NoNeighbour)
-nobody_goes ps n c none = misdirected_goes no_strangers ps (event.Start n c) fault.NoNeighbour none one
-  where
-    one : (g : OrderFault) → IsMisdirected ps (event.Start n c) g → fault.NoNeighbour ≡ g
-    one fault.NoNeighbour h = refl
-    one (fault.Peer f) h = absurd h
+abbrev refused_with : Option OrderFault → Result ⊤ OrderFault
+refused_with None = Ok tt
+refused_with (Some f) = Err f
 
 module _ (ps : List (Option Peer)) (n : ℕ) (c : Conn) (p : Peer) (at : peer_at ps n ≡ Some p) where
   directed : IsDirected ps (event.Start n c)
@@ -154,15 +105,15 @@ module _ (ps : List (Option Peer)) (n : ℕ) (c : Conn) (p : Peer) (at : peer_at
   ruled_at None is = tt
   ruled_at (Some f) is = inr (n, refl, record { peer = p; at = at; rule = is })
 
-  pub start_goes : GoesByAllRules no_strangers ps (event.Start n c)
-      (refused_with (option_map fault.Peer (start_refusal p.standing.core.state)))
-  start_goes =
+  pub start_goes : (o : Option PeerFault) → start_refusal p.standing.core.state ≡ o →
+      GoesByAllRules no_strangers ps (event.Start n c) (refused_with (option_map fault.Peer o))
+  start_goes o is =
       record {
         misdirected = λ g wrong. absurd (directed g wrong);
         by_rule = record {
           refuses = λ i g straight concerned out.
-              ap (λ o. refused_with (option_map fault.Peer o)) (rule_at i g concerned out);
-          ruled = ruled_at (start_refusal p.standing.core.state) refl;
+              ap (λ r. refused_with (option_map fault.Peer r)) (sym is ∙ rule_at i g concerned out);
+          ruled = ruled_at o is;
         };
       }
 
@@ -181,12 +132,6 @@ module _ (ps : List (Option Peer)) (n : ℕ) (c : Conn) (p : Peer) (at : peer_at
       refused = refused_of (acts p (Start c)) f (rule p (Start c) kept.settled.shaped ∙ is);
     },
   )
-
--- what holds of each fault of a neighbour's rules
-pub each_fault : (P : OrderFault → Type 0) (r : Option OrderFault) (o : Option PeerFault) → r ≡ option_map fault.Peer o →
-    ((f : PeerFault) → o ≡ Some f → P (fault.Peer f)) → IfSome r P
-each_fault P r None is all = subst (λ x. IfSome x P) (sym is) tt
-each_fault P r (Some f) is all = subst (λ x. IfSome x P) (sym is) (all f refl)
 
 -- Rules that a call handed on keeps.
 
@@ -213,19 +158,18 @@ failed_goes A policy ps e f r is directed rules =
       };
     }
 
-pub done_all : {A B : Type 0} (policy : Policy) (ps : List (Option Peer)) (e : NodeEvent) (a : A) (b : B)
-    (r : Result B OrderFault) → r ≡ Ok b → GoesByAllRules policy ps e r → GoesByAllRules policy ps e (Ok a)
-done_all policy ps e a b r is rules =
-    done_goes policy ps e a b r is (λ f wrong. not_done b f r is (rules.misdirected f wrong)) rules.by_rule
-
-pub failed_all : {B : Type 0} (A : Type 0) (policy : Policy) (ps : List (Option Peer)) (e : NodeEvent) (f : OrderFault)
-    (r : Result B OrderFault) → r ≡ Err f → GoesByAllRules policy ps e r → GoesByAllRules {A = A} policy ps e (Err f)
-failed_all A policy ps e f r is rules =
+-- so an order goes by the rules of the event that it tells, where it is refused as that is
+pub order_goes : {B : Type 0} (e : NodeEvent) (ps : List (Option Peer)) (r : Result B OrderFault)
+    (q : Result ⊤ OrderFault) → ((f : OrderFault) → r ≡ Err f → q ≡ Err f) → IfErr q (λ f. (f ≡ fault.Peer NoMemory)
+    ⊎ ((d : NodeEvent) × (Some e ≡ Some d) × IsByRule no_strangers ps d f)) →
+    GoesByAllRules no_strangers ps e r → OrderGoesByRules (Some e) ps q
+order_goes e ps r q told ruled rules =
     record {
-      misdirected = λ g wrong. ap Err (same_fault f g r is (rules.misdirected g wrong));
-      by_rule = record {
-        refuses = λ i g d concerned out.
-            ap Err (same_fault f (fault.Peer g) r is (rules.by_rule.refuses i g d concerned out));
-        ruled = subst (λ x. IfErr x (IsByRule policy ps e)) is rules.by_rule.ruled;
-      };
+      misdirected = λ d f is wrong. told f ((by d is).misdirected f wrong);
+      refuses = λ d i f is directed concerned out.
+          told (fault.Peer f) ((by d is).by_rule.refuses i f directed concerned out);
+      ruled = ruled;
     }
+  where
+    by : (d : NodeEvent) → Some e ≡ Some d → GoesByAllRules no_strangers ps d r
+    by d is = subst (λ x. GoesByAllRules no_strangers ps x r) (one_some e d is) rules

@@ -1,5 +1,5 @@
 -- When the neighbour that an event concerns refuses it, and when memory is wanted for it (RFC 6733, 5.6).
-use Rattle.std.specs.Prelude.{◌≡◌, ◌⊎◌, ℕ, Option, None, Some, Result, Ok, Err, IfErr, IsTrue, List, ⊤}
+use Rattle.std.specs.Prelude.{◌≡◌, ◌⊎◌, ℕ, Option, Some, Result, Err, IfErr, IsTrue, List}
 use Rattle.dm_peer.specs.Acts.{Refused, acts, wants_memory}
 use Rattle.dm_peer.specs.declared.fault.PeerFault.{PeerFault}
 use Rattle.dm_peer.specs.declared.fault.PeerFault.TheVariants.{NoMemory}
@@ -58,8 +58,3 @@ pub record GoesByAllRules {A : Type 0} (policy : Policy) (ps : List (Option Peer
 abbrev pub EventTakesMemory : Policy → List (Option Peer) → NodeEvent → Type 0
 EventTakesMemory policy ps e =
     (i : ℕ) × (p : Peer) × Concerns policy ps e i × (peer_at ps i ≡ Some p) × IsTrue (wants_memory (acts p (told_of e)))
-
--- what an event comes to that is refused with a fault, if there is one
-abbrev pub refused_with : Option OrderFault → Result ⊤ OrderFault
-refused_with None = Ok tt
-refused_with (Some f) = Err f

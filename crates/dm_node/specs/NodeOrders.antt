@@ -1,21 +1,28 @@
 -- The orders of who drives a node, and what each comes to.
-use Rattle.std.specs.Prelude.{◌≡◌, ◌⊎◌, ℕ, cond, true, false, Option, None, Some, Result, IfErr, List, [], ◌∷◌, ◌++◌}
+use Rattle.std.specs.Prelude.{◌≡◌, ◌⊎◌, ℕ, cond, true, false, Option, None, Some, Result, Err, IfErr, OnOk, OnErr, List, [], ◌∷◌, ◌++◌, All, ⊤}
 use Rattle.dm_machine.specs.declared.connection.Conn.{Conn}
 use Rattle.dm_node.specs.declared.events.NodeEvent.{NodeEvent}
 use Rattle.dm_node.specs.declared.events.NodeEvent.TheVariants as event
 use Rattle.dm_node.specs.declared.fault.OrderFault.{OrderFault}
 use Rattle.dm_node.specs.declared.fault.OrderFault.TheVariants as fault
+use Rattle.dm_peer.specs.declared.fault.PeerFault.{PeerFault}
 use Rattle.dm_peer.specs.declared.fault.PeerFault.TheVariants.{NoMemory}
-use Rattle.dm_node.specs.Declining.{IsDeclinedHere, GoesByAllRules, EventTakesMemory}
+use Rattle.dm_node.specs.Answers.{asks_of}
+use Rattle.dm_node.specs.Declining.{IsRuledOut, IsDirected, IsByRule, IsDeclinedHere, EventTakesMemory}
 use Rattle.dm_node.specs.Emptying.{without_peer, with_set_back, all_set_back}
 use Rattle.dm_node.specs.Holding.{peer_at, holds_it, holds_at}
+use Rattle.dm_node.specs.NodeKnown.{KnownAfterOrder}
+use Rattle.dm_node.specs.NodeSeen.{node_state_of, node_known_of}
 use Rattle.dm_node.specs.Policies.{no_strangers}
-use Rattle.dm_node.specs.Telling.{IsFree}
+use Rattle.dm_node.specs.Telling.{Concerns, IsFree, IsMisdirected, told_of}
 use Rattle.dm_peer.specs.declared.actions.Action.{Action}
 use Rattle.dm_peer.specs.declared.actions.Action.TheVariants.{Close}
 use Rattle.dm_peer.specs.declared.peer.Peer.{Peer}
+use Rattle.dm_peer.specs.Spelled.{SendsSpelling}
 use Rattle.dm_slots.specs.Intakes.{Intakes, none_there, is_there, opened, taken_down}
 use Rattle.dm_slots.specs.Raised.{own_of, other_of}
+use Rattle.dm_node.specs.declared.answer.Answer.{Answer}
+use Rattle.dm_node.specs.declared.node.Node as declared
 use Rattle.dm_node.specs.declared.order.Order.{Order}
 use Rattle.dm_node.specs.declared.order.Order.TheVariants as order
 use Rattle.dm_node.specs.NodeStates.{NodeState, NodeAnswer, NodeTells, with_node_intakes}
@@ -177,7 +184,31 @@ OrderTakesMemory (order.Start n c) s = is_there c.0 s.intakes ≡ false
 OrderTakesMemory (order.Accept c) s = is_there c.0 s.intakes ≡ false
 OrderTakesMemory o s = ToldTakesMemory (event_ordered o s) s
 
--- but for want of memory an order whose event goes by its rules does too; one that tells none isn't refused
-abbrev pub OrderGoesByRules : {A : Type 0} → Option NodeEvent → NodeState → Result A OrderFault → Type 0
-OrderGoesByRules None s result = IfErr result (λ f. f ≡ fault.Peer NoMemory)
-OrderGoesByRules (Some e) s result = GoesByAllRules no_strangers s.peers e result
+-- but for want of memory an order whose event is misdirected, or is ruled out, is refused so, and no other is
+pub record OrderGoesByRules (told : Option NodeEvent) (ps : List (Option Peer)) (result : Result ⊤ OrderFault) : Type 0
+  where
+    pub misdirected : (e : NodeEvent) (f : OrderFault) → told ≡ Some e → IsMisdirected ps e f → result ≡ Err f
+    pub refuses : (e : NodeEvent) (i : ℕ) (f : PeerFault) → told ≡ Some e → IsDirected ps e
+        → Concerns no_strangers ps e i → IsRuledOut ps i (told_of e) f → result ≡ Err (fault.Peer f)
+    pub ruled : IfErr result (λ f. (f ≡ fault.Peer NoMemory)
+        ⊎ ((e : NodeEvent) × (told ≡ Some e) × IsByRule no_strangers ps e f))
+
+-- An order, or a part of one, is taken or refused: what it takes, why it is refused, the event that it tells, if any,
+-- and when memory is wanted. Where it is refused the node is as it was.
+pub record IsTakenOrRefused (Takes : NodeState → Option NodeAnswer → NodeState → Type 0)
+    (Refuses : NodeState → OrderFault → Type 0) (event_of : NodeState → Option NodeEvent)
+    (TakesMemory : NodeState → Type 0) (s : declared.Node) (result : Result ⊤ OrderFault) (answer : Answer)
+    (t : declared.Node) : Type 0 where
+  pub taken : OnOk result (Takes (node_state_of s) (asks_of answer) (node_state_of t))
+  pub refused : IfErr result (λ f. (f ≡ fault.Peer NoMemory) ⊎ Refuses (node_state_of s) f)
+  pub unchanged : OnErr result (node_state_of t ≡ node_state_of s)
+  pub met : OnOk result (KnownAfterOrder (asks_of answer) (node_state_of s) (node_state_of t) (node_known_of s)
+      (node_known_of t))
+  pub same : OnErr result (node_known_of t ≡ node_known_of s)
+  pub rules : OrderGoesByRules (event_of (node_state_of s)) s.neighbours result
+  pub memory : result ≡ Err (fault.Peer NoMemory) → TakesMemory (node_state_of s)
+  pub spelled : OnOk result (All SendsSpelling answer.actions.items)
+
+abbrev pub OrderIsTakenOrRefused : Order → declared.Node → Result ⊤ OrderFault → Answer → declared.Node → Type 0
+OrderIsTakenOrRefused o s result answer t =
+    IsTakenOrRefused (NodeTakes o) (NodeRefuses o) (event_ordered o) (OrderTakesMemory o) s result answer t

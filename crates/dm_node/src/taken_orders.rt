@@ -1,50 +1,36 @@
 //! Orders that a node takes, and what each comes to.
-ghost use Rattle.std.specs.Prelude.{◌≡◌, ◌⊎◌, ℕ, [], Some, Err, All, false, IfErr, IfSome, OnOk, OnErr};
+ghost use Rattle.std.specs.Prelude.{◌≡◌, ◌⊎◌, ℕ, [], Some, Err, All, IfErr, OnOk, OnErr};
+ghost use Rattle.dm_node.specs.Answers.{IsUntold, asks_of};
 ghost use Rattle.dm_node.specs.Declining.{IsDeclinedHere, IsRuledOut, IsDirected, IsByRule, GoesByAllRules};
-ghost use Rattle.dm_node.specs.Declining.{EventTakesMemory, refused_with};
+ghost use Rattle.dm_node.specs.Declining.{EventTakesMemory};
+ghost use Rattle.dm_node.specs.NodeKnown.{KnownAfterOrder};
+ghost use Rattle.dm_node.specs.NodeOrders.{IsTakenOrRefused, OrderIsTakenOrRefused, NodeTakes, NodeTellsOnce};
+ghost use Rattle.dm_node.specs.NodeOrders.{NodeTellsIfThere, NodeRefuses, NodeRefusesOnce, NodeRefusesIfThere};
+ghost use Rattle.dm_node.specs.NodeOrders.{event_ordered, told_there, ToldTakesMemory, OrderTakesMemory, ShutsUnheld};
+ghost use Rattle.dm_node.specs.NodeSeen.{node_state_of, node_known_of};
 ghost use Rattle.dm_node.specs.Policies.{no_strangers};
 ghost use Rattle.dm_node.specs.Telling.{Concerns, IsMisdirected, IsStrangeCer, StartsFree, told_of};
 ghost use Rattle.dm_node.specs.declared.events.NodeEvent.{NodeEvent as OneEvent};
 ghost use Rattle.dm_node.specs.declared.fault.OrderFault.{OrderFault};
-ghost use Rattle.dm_peer.specs.Refusing.{start_refusal};
+ghost use Rattle.dm_node.specs.declared.fault.OrderFault.TheVariants as faults;
+ghost use Rattle.dm_node.specs.declared.order.Order.TheVariants as orders;
 ghost use Rattle.dm_peer.specs.Spelled.{SendsSpelling};
 ghost use Rattle.dm_peer.specs.declared.fault.PeerFault.{PeerFault};
-ghost use Rattle.dm_node.specs.NodeOrders.{event_ordered, told_there, start_told};
-ghost use Rattle.dm_node.specs.NodeOrders.{ToldTakesMemory, OrderTakesMemory, OrderGoesByRules};
-ghost use Rattle.dm_node.specs.declared.fault.OrderFault.TheVariants as faults;
 ghost use Rattle.dm_peer.specs.declared.fault.PeerFault.TheVariants as peer_faults;
 ghost use Rattle.dm_slots.specs.Naming.{NamesThere, NamesAtMost};
-ghost use Rattle.dm_node.specs.NodeOrders.{NodeTakes, NodeTellsOnce, NodeTellsIfThere, NodeTellsStart};
-ghost use Rattle.dm_node.specs.NodeOrders.{NodeRefuses, NodeRefusesOnce, NodeRefusesIfThere, ShutsUnheld};
-ghost use Rattle.dm_node.specs.NodeOrders.{NodeTellsNack, NodeTellsEnd};
-ghost use Rattle.dm_node.specs.NodeKnown.{KnownAfterOrder};
-ghost use Rattle.std.specs.Option.{option_map};
-ghost use Rattle.dm_node.specs.NodeSeen.{node_state_of, node_known_of};
-ghost use Rattle.dm_node.specs.Answers.{IsUntold, asks_of};
 
 use crate::neighbours::neighbours_are_apart_and_sound;
 use crate::settling::settle_connections;
 use crate::telling::tell_event;
 use crate::{Answer, Node, NodeEvent, Order, OrderFault, Told};
 use dm_machine::{Conn, State};
+use dm_peer::PeerFault;
 use dm_peer::laws::{event_refusals_go_by_rule, events_take_named_release_closed_connections};
-use dm_peer::{Peer, PeerFault};
 use dm_slots::laws::connections_stay_until_closed;
 use std::alloc::Global;
 
-/// Why the peer refuses a Start; None where it takes one.
-fn peer_start_fault(peer: &Peer) -> Option<OrderFault>
-    ensures { result ≡ option_map faults.Peer (start_refusal peer.now.standing.core.state) }
-{
-    match peer.state() {
-        State::Closed => None,
-        _ => Some(OrderFault::Peer(PeerFault::NotClosed)),
-    }
-}
-
 impl Node {
-    ghost use Rattle.dm_node.specs.declared.events.NodeEvent.TheVariants.{Start, Nack, Gone};
-    ghost use Rattle.dm_slots.specs.Intakes.{is_there};
+    ghost use Rattle.dm_node.specs.declared.events.NodeEvent.TheVariants.{Start};
 
     /// Takes an order: `answer` says what it asks for, and of which neighbour, or that no event is told. What comes on
     /// a connection is heard by [`Node::hear`]. Where the neighbour wasn't open and is open behind the event, which
@@ -106,31 +92,29 @@ impl Node {
         answer: &mut Answer,
     ) -> Result<(), OrderFault>
         requires { IsUntold answer.old }
-        ensures taken { OnOk result (NodeTakes order.entry (node_state_of self.old) (asks_of answer.new)
-            (node_state_of self.new)) }
-        ensures refused { IfErr result (λ fault. (fault ≡ faults.Peer peer_faults.NoMemory)
-            ⊎ NodeRefuses order.entry (node_state_of self.old) fault) }
-        ensures unchanged { OnErr result (node_state_of self.new ≡ node_state_of self.old) }
-        ensures met { OnOk result (KnownAfterOrder (asks_of answer.new) (node_state_of self.old)
-            (node_state_of self.new) (node_known_of self.old) (node_known_of self.new)) }
-        ensures same { OnErr result (node_known_of self.new ≡ node_known_of self.old) }
-        ensures rules { OrderGoesByRules (event_ordered order.entry (node_state_of self.old))
-            (node_state_of self.old) result }
-        ensures memory { result ≡ Err (faults.Peer peer_faults.NoMemory)
-            → OrderTakesMemory order.entry (node_state_of self.old) }
-        ensures spelled { OnOk result (All SendsSpelling answer.new.actions.items) }
+        ensures { OrderIsTakenOrRefused order.entry self.old result answer.new self.new }
     {
         match order {
             Order::Start(index, conn) => {
                 self.add_and_start_unless_there(alloc, index, conn, answer)
             }
             Order::Ack(conn) => self.tell_event_if_there(alloc, conn, NodeEvent::Ack(conn), answer),
-            Order::Nack(conn) => self.tell_nack_and_shut_unheld(alloc, conn, answer),
+            Order::Nack(conn) => {
+                self.tell_event_if_there(alloc, conn, NodeEvent::Nack(conn), answer)?;
+                self.shut_unless_held(conn);
+                Ok(())
+            }
             Order::Accept(conn) => match self.add_connection_unless_there(alloc, conn) {
                 Ok(()) => Ok(()),
                 Err(_) => Err(OrderFault::Peer(PeerFault::NoMemory)),
             },
-            Order::Gone(conn) => self.tell_gone_and_shut(alloc, conn, answer),
+            Order::Gone(conn) => {
+                events_take_named_release_closed_connections();
+                neighbours_are_apart_and_sound(&self.neighbours);
+                self.tell_event_if_there(alloc, conn, NodeEvent::Gone(conn), answer)?;
+                self.shut(conn);
+                Ok(())
+            }
             Order::Timeout(index) => {
                 self.tell_order_event(alloc, NodeEvent::Timeout(index), answer)
             }
@@ -165,18 +149,8 @@ impl Node {
         requires calm { IsStrangeCer event → ⊥ }
         requires free { StartsFree (node_state_of self.old).peers event }
         requires none { answer.old.actions.items ≡ [] }
-        ensures told { OnOk result (NodeTellsOnce event.entry (node_state_of self.old)
-            (asks_of answer.new) (node_state_of self.new)) }
-        ensures refused { IfErr result (λ fault. (fault ≡ faults.Peer peer_faults.NoMemory)
-            ⊎ NodeRefusesOnce event.entry (node_state_of self.old) fault) }
-        ensures unchanged { OnErr result (node_state_of self.new ≡ node_state_of self.old) }
-        ensures met { OnOk result (KnownAfterOrder (asks_of answer.new) (node_state_of self.old)
-            (node_state_of self.new) (node_known_of self.old) (node_known_of self.new)) }
-        ensures same { OnErr result (node_known_of self.new ≡ node_known_of self.old) }
-        ensures rules { GoesByAllRules no_strangers (node_state_of self.old).peers event.entry result }
-        ensures memory { result ≡ Err (faults.Peer peer_faults.NoMemory)
-            → EventTakesMemory no_strangers (node_state_of self.old).peers event.entry }
-        ensures spelled { OnOk result (All SendsSpelling answer.new.actions.items) }
+        ensures { IsTakenOrRefused (NodeTellsOnce event.entry) (NodeRefusesOnce event.entry) (λ s. Some event.entry)
+            (λ s. EventTakesMemory no_strangers s.peers event.entry) self.old result answer.new self.new }
     {
         match tell_event(
             alloc,
@@ -210,19 +184,9 @@ impl Node {
         requires calm { IsStrangeCer event → ⊥ }
         requires free { StartsFree (node_state_of self.old).peers event }
         requires empty { IsUntold answer.old }
-        ensures told { OnOk result (NodeTellsIfThere conn event.entry (node_state_of self.old)
-            (asks_of answer.new) (node_state_of self.new)) }
-        ensures refused { IfErr result (λ fault. (fault ≡ faults.Peer peer_faults.NoMemory)
-            ⊎ NodeRefusesIfThere conn event.entry (node_state_of self.old) fault) }
-        ensures unchanged { OnErr result (node_state_of self.new ≡ node_state_of self.old) }
-        ensures met { OnOk result (KnownAfterOrder (asks_of answer.new) (node_state_of self.old)
-            (node_state_of self.new) (node_known_of self.old) (node_known_of self.new)) }
-        ensures same { OnErr result (node_known_of self.new ≡ node_known_of self.old) }
-        ensures rules { OrderGoesByRules (told_there conn event.entry (node_state_of self.old))
-            (node_state_of self.old) result }
-        ensures memory { result ≡ Err (faults.Peer peer_faults.NoMemory)
-            → ToldTakesMemory (told_there conn event.entry (node_state_of self.old)) (node_state_of self.old) }
-        ensures spelled { OnOk result (All SendsSpelling answer.new.actions.items) }
+        ensures { IsTakenOrRefused (NodeTellsIfThere conn event.entry) (NodeRefusesIfThere conn event.entry)
+            (told_there conn event.entry) (λ s. ToldTakesMemory (told_there conn event.entry s) s)
+            self.old result answer.new self.new }
     {
         if self.has(conn) {
             self.tell_order_event(alloc, event, answer)
@@ -242,83 +206,21 @@ impl Node {
         }
     }
 
-    /// Tells that the connection can't be made, and forgets it then, unless a neighbour holds it.
-    fn tell_nack_and_shut_unheld(
-        &mut self,
-        alloc: Global,
-        conn: Conn,
-        answer: &mut Answer,
-    ) -> Result<(), OrderFault>
-        requires { IsUntold answer.old }
-        ensures told { OnOk result (NodeTellsNack conn (node_state_of self.old)
-            (asks_of answer.new) (node_state_of self.new)) }
-        ensures refused { IfErr result (λ fault. (fault ≡ faults.Peer peer_faults.NoMemory)
-            ⊎ NodeRefusesIfThere conn (Nack conn) (node_state_of self.old) fault) }
-        ensures unchanged { OnErr result (node_state_of self.new ≡ node_state_of self.old) }
-        ensures met { OnOk result (KnownAfterOrder (asks_of answer.new) (node_state_of self.old)
-            (node_state_of self.new) (node_known_of self.old) (node_known_of self.new)) }
-        ensures same { OnErr result (node_known_of self.new ≡ node_known_of self.old) }
-        ensures rules { OrderGoesByRules (told_there conn (Nack conn) (node_state_of self.old))
-            (node_state_of self.old) result }
-        ensures memory { result ≡ Err (faults.Peer peer_faults.NoMemory)
-            → ToldTakesMemory (told_there conn (Nack conn) (node_state_of self.old)) (node_state_of self.old) }
-        ensures spelled { OnOk result (All SendsSpelling answer.new.actions.items) }
-    {
-        match self.tell_event_if_there(alloc, conn, NodeEvent::Nack(conn), answer) {
-            Ok(()) => {
-                self.shut_unless_held(conn);
-                Ok(())
-            }
-            Err(fault) => Err(fault),
-        }
-    }
-
-    /// Tells the end of the connection, and forgets it then.
-    fn tell_gone_and_shut(
-        &mut self,
-        alloc: Global,
-        conn: Conn,
-        answer: &mut Answer,
-    ) -> Result<(), OrderFault>
-        requires { IsUntold answer.old }
-        ensures told { OnOk result (NodeTellsEnd conn (Gone conn) (node_state_of self.old)
-            (asks_of answer.new) (node_state_of self.new)) }
-        ensures refused { IfErr result (λ fault. (fault ≡ faults.Peer peer_faults.NoMemory)
-            ⊎ NodeRefusesIfThere conn (Gone conn) (node_state_of self.old) fault) }
-        ensures unchanged { OnErr result (node_state_of self.new ≡ node_state_of self.old) }
-        ensures met { OnOk result (KnownAfterOrder (asks_of answer.new) (node_state_of self.old)
-            (node_state_of self.new) (node_known_of self.old) (node_known_of self.new)) }
-        ensures same { OnErr result (node_known_of self.new ≡ node_known_of self.old) }
-        ensures rules { OrderGoesByRules (told_there conn (Gone conn) (node_state_of self.old))
-            (node_state_of self.old) result }
-        ensures memory { result ≡ Err (faults.Peer peer_faults.NoMemory)
-            → ToldTakesMemory (told_there conn (Gone conn) (node_state_of self.old)) (node_state_of self.old) }
-        ensures spelled { OnOk result (All SendsSpelling answer.new.actions.items) }
-    {
-        events_take_named_release_closed_connections();
-        neighbours_are_apart_and_sound(&self.neighbours);
-        match self.tell_event_if_there(alloc, conn, NodeEvent::Gone(conn), answer) {
-            Ok(()) => {
-                self.shut(conn);
-                Ok(())
-            }
-            Err(fault) => Err(fault),
-        }
-    }
-
-    /// Why the rules refuse a Start of the connection, if they do: nobody has the number, or the neighbour isn't
-    /// Closed. Whether the connection is there isn't asked.
-    fn neighbour_start_fault(&self, index: usize, conn: Conn) -> Option<OrderFault>
-        ensures declined { IfSome result (IsDeclinedHere no_strangers (node_state_of self.now).peers
+    /// Whether the rules allow a Start of the connection: they refuse it where nobody has the number, and where the
+    /// neighbour isn't Closed. Whether the connection is there isn't asked.
+    fn check_start(&self, index: usize, conn: Conn) -> Result<(), OrderFault>
+        ensures declined { IfErr result (IsDeclinedHere no_strangers (node_state_of self.now).peers
             (Start index conn)) }
-        ensures rules { GoesByAllRules no_strangers (node_state_of self.now).peers (Start index conn)
-            (refused_with result) }
+        ensures rules { GoesByAllRules no_strangers (node_state_of self.now).peers (Start index conn) result }
     {
         event_refusals_go_by_rule();
         neighbours_are_apart_and_sound(&self.neighbours);
         match self.neighbours.peer(index) {
-            Some(peer) => peer_start_fault(peer),
-            None => Some(OrderFault::NoNeighbour),
+            Some(peer) => match peer.state() {
+                State::Closed => Ok(()),
+                _ => Err(OrderFault::Peer(PeerFault::NotClosed)),
+            },
+            None => Err(OrderFault::NoNeighbour),
         }
     }
 
@@ -332,26 +234,13 @@ impl Node {
         answer: &mut Answer,
     ) -> Result<(), OrderFault>
         requires { IsUntold answer.old }
-        ensures told { OnOk result (NodeTellsStart index conn (node_state_of self.old)
-            (asks_of answer.new) (node_state_of self.new)) }
-        ensures refused { IfErr result (λ fault. (fault ≡ faults.Peer peer_faults.NoMemory)
-            ⊎ ((is_there conn.0 (node_state_of self.old).intakes ≡ false)
-            × NodeRefusesOnce (Start index conn) (node_state_of self.old) fault)) }
-        ensures unchanged { OnErr result (node_state_of self.new ≡ node_state_of self.old) }
-        ensures met { OnOk result (KnownAfterOrder (asks_of answer.new) (node_state_of self.old)
-            (node_state_of self.new) (node_known_of self.old) (node_known_of self.new)) }
-        ensures same { OnErr result (node_known_of self.new ≡ node_known_of self.old) }
-        ensures rules { OrderGoesByRules (start_told index conn (node_state_of self.old))
-            (node_state_of self.old) result }
-        ensures memory { result ≡ Err (faults.Peer peer_faults.NoMemory)
-            → is_there conn.0 (node_state_of self.old).intakes ≡ false }
-        ensures spelled { OnOk result (All SendsSpelling answer.new.actions.items) }
+        ensures { OrderIsTakenOrRefused (orders.Start index conn) self.old result answer.new self.new }
     {
         connections_stay_until_closed();
         if self.has(conn) {
             return Ok(());
         }
-        if let Some(fault) = self.neighbour_start_fault(index, conn) {
+        if let Err(fault) = self.check_start(index, conn) {
             return Err(fault);
         }
         match self.add_connection_unless_there(alloc, conn) {

@@ -1,27 +1,31 @@
 -- The event is told by no policy, what is held behind it is there, and whom it met is known.
-use Rattle.std.proofs.Common.{refl}
+use Rattle.std.proofs.Common.{rules, inr, refl, Ok, Err, Some}
 use Rattle.dm_slots.specs.Held.{intakes_of}
-use Rattle.dm_node.specs.NodeSeen.{node_state_of}
 use Rattle.dm_node.specs.Answers.{as_answer}
-use Rattle.dm_node.proofs.NodeStaying.{settled_as}
-use Rattle.dm_node.specs.Policies.{no_strangers}
-use Rattle.dm_node.proofs.Ruling.{done_all, failed_all}
+use Rattle.dm_node.specs.NodeOrders.{NodeTellsOnce}
+use Rattle.dm_node.specs.NodeSeen.{node_state_of}
+use Rattle.dm_node.proofs.NodeStaying.{node_at, settled_as}
+use Rattle.dm_node.proofs.Ruling.{order_goes}
 use Rattle.dm_node.proofs.node.Node.tell_order_event.Goals as goal
 
-pub returns-in-Ok-clause-told : goal.returns-in-Ok-clause-told
-returns-in-Ok-clause-told c =
+pub returns-in-Ok : goal.returns-in-Ok
+returns-in-Ok c =
+    let done = c.in-Ok.ensures in
     let old = node_state_of c.args.self.now in
-    let answer = c.tell_event.new.answer in
-    let qs = c.tell_event.new.neighbours in (
-      as_answer answer,
+    let answer = as_answer c.tell_event.new.answer in
+    let qs = c.tell_event.new.neighbours in
+    let new = node_at old qs (intakes_of c.settle_connections.new.slots) in
+    let told : NodeTellsOnce c.args.event old (Some answer) new = (
+      answer,
       refl,
       record {
         peers = qs;
-        moved = c.in-Ok.ensures.told;
-        left = settled_as old qs answer.neighbour answer.actions.items _ _ _
-            c.settle_connections.ensures.settled refl;
+        moved = done.told;
+        left = settled_as old qs answer.neighbour answer.actions _ _ _ c.settle_connections.ensures.settled refl;
       },
-    )
+    ) in
+    let goes = order_goes c.args.event old.peers (Ok c.in-Ok.told) (Ok tt) (λ f other. absurd (cc)) tt done.rules in
+    search (rules, done, told, goes)
 
 pub settle_connections-requires-clause-there : goal.settle_connections-requires-clause-there
 settle_connections-requires-clause-there c =
@@ -31,16 +35,14 @@ pub invariant_of-self : goal.invariant_of-self
 invariant_of-self c =
     record {
       held = c.settle_connections.ensures.held;
-      owned = c.settle_connections.ensures.owned c.args.self.now.neighbours c.in-Ok.ensures.before c.args.self.now.owned;
+      owned = c.settle_connections.ensures.owned c.args.self.now.neighbours c.in-Ok.ensures.before
+          c.args.self.now.owned;
       met = c.tell_event.ensures.places;
     }
 
-pub returns-in-Ok-clause-rules : goal.returns-in-Ok-clause-rules
-returns-in-Ok-clause-rules c =
-    done_all no_strangers c.args.self.now.neighbours c.args.event tt _ c.tell_event.result c.in-Ok.is
-    c.tell_event.ensures.rules
-
-pub returns-in-Err-clause-rules : goal.returns-in-Err-clause-rules
-returns-in-Err-clause-rules c =
-    failed_all _ no_strangers c.args.self.now.neighbours c.args.event c.in-Err.fault c.tell_event.result c.in-Err.is
-    c.tell_event.ensures.rules
+pub returns-in-Err : goal.returns-in-Err
+returns-in-Err c =
+    let failed = c.in-Err.ensures in
+    let goes = order_goes c.args.event c.args.self.now.neighbours (Err c.in-Err.fault) (Err c.in-Err.fault)
+    (λ f same. cc) (inr (c.args.event, refl, failed.rules.by_rule.ruled)) failed.rules in
+    search (rules, failed, failed.wants, goes)
