@@ -29,7 +29,7 @@ returns-in-Ok-tell_order_event c =
     c.add_connection_unless_there.ensures.known told.met in
     let goes = order_goes {B = ⊤} (Start c.args.index c.args.conn) old.peers (Ok tt) (Ok tt)
     (λ f other. absurd (cc)) tt (rw c.in_default.is at c.check_start.ensures.rules) in
-    search (rules, sym c.if-has.ensures, same, told, is, met, goes)
+    search (rules, sym c.if-has.ensures, told, is, met, goes)
 
 pub returns-in-Err-tell_order_event : goal.returns-in-Err-tell_order_event
 returns-in-Err-tell_order_event c =

@@ -1,9 +1,8 @@
 -- A connection that was accepted is there, and whom an event met is known where a connection goes behind it.
-use Rattle.std.proofs.Common.{rules, ap}
-use Rattle.dm_node.specs.Answers.{asks_of}
+use Rattle.std.proofs.Common.{◌≡◌, rules, ap, None}
+use Rattle.dm_node.specs.Answers.{as_answer, asks_as, asks_of}
 use Rattle.dm_node.specs.NodeSeen.{node_state_of, node_known_of}
 use Rattle.dm_node.specs.NodeStates.{NodeState}
-use Rattle.dm_node.proofs.Asked.{asks_nothing}
 use Rattle.dm_node.proofs.NodeKnowing.{after_moved, unheld_peers}
 use Rattle.dm_node.proofs.NodeStarting.{gone_free}
 use Rattle.dm_node.proofs.node.Node.take_order.Goals as goal
@@ -11,7 +10,9 @@ use Rattle.dm_node.proofs.node.Node.take_order.Goals as goal
 pub returns-in-Ok : goal.returns-in-Ok
 returns-in-Ok c =
     let opened = c.in-Ok.ensures in
-    search (rules, c.in-Accept.is, opened, asks_nothing c.args.answer.now c.requires)
+    let answer = c.args.answer.now in
+    let untold : asks_of answer ≡ None = ap (λ told. asks_as told (as_answer answer)) c.requires.nothing in
+    search (rules, c.in-Accept.is, opened, untold)
 
 pub returns-in_ok-tell_event_if_there-in-Nack : goal.returns-in_ok-tell_event_if_there-in-Nack
 returns-in_ok-tell_event_if_there-in-Nack c =
