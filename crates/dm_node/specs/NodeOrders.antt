@@ -1,5 +1,6 @@
 -- The orders of who drives a node, and what each comes to.
-use Rattle.std.specs.Prelude.{◌≡◌, ◌⊎◌, ℕ, cond, true, false, Option, None, Some, Result, Err, IfErr, OnOk, OnErr, List, [], ◌∷◌, ◌++◌, All, ⊤}
+use Rattle.std.specs.Prelude.{◌≡◌, ◌⊎◌, ℕ, cond, true, false, Option, None, Some, Result, Err, IfErr, OnOk, OnErr}
+use Rattle.std.specs.Prelude.{List, [], ◌∷◌, ◌++◌, All, ⊤}
 use Rattle.dm_machine.specs.declared.connection.Conn.{Conn}
 use Rattle.dm_node.specs.declared.events.NodeEvent.{NodeEvent}
 use Rattle.dm_node.specs.declared.events.NodeEvent.TheVariants as event

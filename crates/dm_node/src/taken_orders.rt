@@ -85,6 +85,7 @@ impl Node {
 
     /// Takes an order, and puts what it asks for into `answer`, which says before that nothing was told. Behind an
     /// `Err` the node is as it was.
+    #[inline(always)]
     fn take_order(
         &mut self,
         alloc: Global,
@@ -139,6 +140,7 @@ impl Node {
     }
 
     /// Tells an event of an order, which names no connection that isn't there.
+    #[inline(always)]
     fn tell_order_event(
         &mut self,
         alloc: Global,
