@@ -1,10 +1,17 @@
--- The line that asks whom a neighbour met beside the lines of orders.
-use Rattle.std.proofs.Common.{◌≡◌, ℕ, List, codes, arith}
+-- Lines beside those of another kind.
+use Rattle.std.proofs.Common.{◌≡◌, ℕ, Bool, List, codes, arith}
 use Rattle.dm_live.specs.declared.form.Form.{Form}
 use Rattle.dm_live.specs.declared.order_name.OrderName.{OrderName}
+use Rattle.dm_live.specs.declared.setting_name.SettingName.{SettingName}
 use Rattle.dm_live.specs.OrderLines.{AskedOfNode, name_word, order_name, TellsOrder}
 use Rattle.dm_live.specs.SenderLines.{IsSender}
+use Rattle.dm_live.specs.Settings.{setting_word, specific_word}
 
+-- no name of one word tells an application of a vendor
+pub no_setting : (name : SettingName) (accounting : Bool) → setting_word name ≡ specific_word accounting → ⊥
+no_setting = grind arith
+
+-- the line that asks whom a neighbour met tells no order
 no_name : (name : OrderName) → name_word name ≡ codes "sender" → ⊥
 no_name = grind arith
 

@@ -1,5 +1,5 @@
 -- The neighbours that a configuration tells, one by one.
-use Rattle.std.proofs.Common.{◌≡◌, inl, inr, ℕ, zero, suc, Bool, true, false, ◌||◌, if◌then◌else◌, Option, None, Some}
+use Rattle.std.proofs.Common.{◌≡◌, ◌≢◌, ◌⊎◌, inl, inr, ℕ, zero, suc, Bool, true, false, ◌||◌, if◌then◌else◌, Option, None, Some}
 use Rattle.std.proofs.Common.{List, [], ◌∷◌, ◌++◌, codes, ap, ◌∙◌, sym, subst, refl, append_assoc, append-nil}
 use Rattle.std.specs.Prelude.{bytes_eq}
 use Rattle.std.specs.Option.{option_map, option_or}
@@ -12,6 +12,7 @@ use Rattle.dm_node.specs.Holding.{host_at, IsKnown}
 use Rattle.dm_node.specs.NodeStates.{NodeState, with_node_peers}
 use Rattle.dm_peer.specs.declared.config.Config.{Config}
 use Rattle.dm_peer.specs.declared.fault.ConfigFault.{ConfigFault}
+use Rattle.dm_peer.specs.declared.fault.ConfigFault.TheVariants.{NoMemory}
 use Rattle.dm_peer.specs.declared.peer.Peer.{Peer}
 use Rattle.dm_peer.specs.After.{fresh_standing}
 use Rattle.dm_peer.specs.Hosts.{config_fault}
@@ -27,13 +28,20 @@ use Rattle.dm_live.specs.Settings.{Settings}
 abbrev known_if : Bool → Option (List ℕ)
 known_if b = if b then Some (codes "Known") else None
 
--- the first peer, which stands behind no other
-pub first_refused : (own : List ℕ) (peers : List (List ℕ)) (f : ConfigFault)
-    → config_fault own (first_told peers) ≡ Some f → peers_fault own [] (hosts_told peers) ≡ Some (config_fault_name f)
-first_refused own [] f is =
-    ap (λ v. option_or (option_or (option_map config_fault_name v) None) None) is
-first_refused own (host ∷ hosts) f is =
-    ap (λ v. option_or (option_or (option_map config_fault_name v) None) (peers_fault own (host ∷ []) hosts)) is
+-- the first peer can't be had, which stands behind no other
+pub first_refused : (s : Settings) (f : ConfigFault) (own host name : List ℕ) → node_told_fault s ≡ None
+    → own ≡ s.host → host ≡ first_told s.peers → (f ≡ NoMemory) ⊎ (config_fault own host ≡ Some f) → f ≢ NoMemory
+    → name ≡ config_fault_name f → go_fault s ≡ Some name
+first_refused s f own host name good same first (inl none) known named = absurd (known none)
+first_refused s f own host name good same first (inr is) known named =
+    ap (λ v. option_or v (peers_fault s.host [] (hosts_told s.peers))) good
+    ∙ by s.peers (sym (ap (λ v. config_fault v host) same ∙ ap (λ v. config_fault s.host v) first) ∙ is) ∙ ap Some (sym named)
+  where
+    by : (peers : List (List ℕ)) → config_fault s.host (first_told peers) ≡ Some f
+        → peers_fault s.host [] (hosts_told peers) ≡ Some (config_fault_name f)
+    by [] is = ap (λ v. option_or (option_or (option_map config_fault_name v) None) None) is
+    by (host ∷ hosts) is =
+        ap (λ v. option_or (option_or (option_map config_fault_name v) None) (peers_fault s.host (host ∷ []) hosts)) is
 
 -- the hosts that are told, or none, whose name no host has
 hosts_fault : (own : List ℕ) (peers : List (List ℕ)) → config_fault own (first_told peers) ≡ None

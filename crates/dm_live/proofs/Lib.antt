@@ -1,12 +1,8 @@
 pub mod Apart
 pub mod FirstLine
-pub mod Joined
 pub mod Joining
-pub mod Options
 pub mod Pieces
-pub mod Rests
 pub mod Running
 pub mod Serving
 pub mod Stages
 pub mod Turns
-pub mod Untold

@@ -1,31 +1,17 @@
 -- What one line makes of a run.
-use Rattle.std.proofs.Common.{◌≡◌, inr, ℕ, Bool, false, Result, Ok, Err, IfOk, OnOk}
+use Rattle.std.proofs.Common.{◌≡◌, inr, ℕ, Result, Ok, Err, OnOk}
 use Rattle.std.proofs.Common.{is_ok, if◌then◌else◌}
 use Rattle.std.proofs.Common.{List, ◌++◌, ◌∷◌, [], codes, ap, ◌∙◌, sym, subst, refl, append_assoc}
-use Rattle.dm_value.specs.declared.address.Ip.{Ip}
-use Rattle.dm_live.specs.declared.setting_name.SettingName.{SettingName}
-use Rattle.dm_live.specs.declared.setting_name.SettingName.TheVariants as names
 use Rattle.dm_live.specs.declared.begun.Begun.{Begun}
 use Rattle.dm_live.specs.declared.begun.Begun.TheVariants.{Nothing}
 use Rattle.dm_live.specs.declared.begun.Begun.TheVariants as variant
 use Rattle.dm_live.specs.declared.form.Form.{Form}
-use Rattle.dm_live.specs.declared.live.Live.{Live}
-use Rattle.dm_live.specs.Drafts.{settings_of}
 use Rattle.dm_live.specs.Answers.{Answers}
 use Rattle.dm_live.specs.Meetings.{Meeting, meeting_of}
 use Rattle.dm_node.specs.declared.node.Node.{Node}
-use Rattle.dm_live.specs.Served.{Stage, Drafting, Running, with_dot, IsGo, AnswersOrder, AnswersLine}
-use Rattle.dm_live.specs.Settings.{Settings, TellsAddress, Sets}
-use Rattle.dm_live.specs.Stages.{stage_at, stage_of, IsBegun}
-
--- a word that tells no address sets none
-pub no_address : {E : Type 0} (r : Result Bool E) (name : SettingName) (word : List ℕ) (s : Settings)
-    → name ≡ names.Address → IfOk r (λ good. good ≡ false → (ip : Ip) → TellsAddress ip word → ⊥)
-    → IfOk r (λ good. good ≡ false → (t : Settings) → Sets name word s t → ⊥)
-no_address (Err e) name word s is none = tt
-no_address (Ok good) name word s is none =
-    λ bad t sets. let P : SettingName → Type 0 = λ n. Sets n word s t in
-    let so = subst P is sets in none bad so.0 so.1
+use Rattle.dm_live.specs.Served.{Drafting, Running, with_dot, IsGo, AnswersOrder, AnswersLine}
+use Rattle.dm_live.specs.Settings.{Settings}
+use Rattle.dm_live.specs.Stages.{stage_at, IsBegun}
 
 -- what a line comes to, and its answer
 pub answers : {T E : Type 0} (r : Result T E) (Answers : List ℕ → Type 0) (old new answer : List ℕ) → Answers answer
@@ -50,18 +36,14 @@ going n line s Nothing answer go (name, fault, is) = inr (name, go, fault, refl,
 going n line s (variant.Running form t) answer go (good, told, begins, is) =
     record { go = go; good = good; form_is = told; begins = begins; answer = is }
 
-pub gone_line : (n : ℕ) (line : List ℕ) (a b : Live) (begun : Begun) (old new : List ℕ)
-    → a.begun ≡ Nothing → b.draft ≡ a.draft → b.begun ≡ begun → IsGo line
-    → (answer : List ℕ) × IsBegun n (settings_of a.draft) begun answer × (new ≡ old ++ answer)
-    → (answer : List ℕ) × AnswersLine n line (stage_of a) (stage_of b) answer × (new ≡ old ++ answer)
-gone_line n line a b begun old new none draft is go (answer, begins, ends) =
-    let s = settings_of a.draft in
-    let From : Stage → Type 0 = λ v. AnswersLine n line v (stage_of b) answer in
-    let To : Stage → Type 0 = λ v. AnswersLine n line (Drafting s) v answer in
-    let to : stage_at s begun ≡ stage_of b =
-    ap (λ v. stage_at s v) (sym is) ∙ ap (λ v. stage_at (settings_of v) b.begun) (sym draft) in
-    let from : Drafting s ≡ stage_of a = ap (λ v. stage_at s v) (sym none) in
-    (answer, subst From from (subst To to (going n line s begun answer go begins)), ends)
+pub gone_line : (n : ℕ) (line : List ℕ) (s : Settings) (before after begun : Begun) (old new : List ℕ)
+    → before ≡ Nothing → after ≡ begun → IsGo line
+    → (answer : List ℕ) × IsBegun n s begun answer × (new ≡ old ++ answer)
+    → (answer : List ℕ) × AnswersLine n line (stage_at s before) (stage_at s after) answer × (new ≡ old ++ answer)
+gone_line n line s before after begun old new none is go (answer, begins, ends) =
+    let From : Begun → Type 0 = λ v. AnswersLine n line (stage_at s v) (stage_at s after) answer in
+    let To : Begun → Type 0 = λ v. AnswersLine n line (Drafting s) (stage_at s v) answer in
+    (answer, subst From (sym none) (subst To (sym is) (going n line s begun answer go begins)), ends)
 
 -- a line behind it
 pub running_line : {T E : Type 0} (r : Result T E) (n : ℕ) (line : List ℕ) (settings : Settings) (begun : Begun)

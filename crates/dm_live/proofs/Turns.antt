@@ -9,7 +9,7 @@ use Rattle.dm_peer.specs.declared.peer.Peer.{Peer}
 use Rattle.dm_node.specs.declared.order.Order.{Order}
 use Rattle.dm_node.specs.declared.answer.Told.{Told}
 use Rattle.dm_node.specs.declared.answer.Told.TheVariants.{Nothing, Message}
-use Rattle.dm_node.specs.Answers.{turn_told}
+use Rattle.dm_node.specs.Answers.{asks_as, turn_told}
 use Rattle.dm_live.specs.declared.asked.Asked.{Asked}
 use Rattle.dm_node.specs.NodeKnown.{KnownAfterOrder}
 use Rattle.dm_node.specs.NodeOrders.{NodeTakes}
@@ -61,15 +61,22 @@ along_out policy c s m t turns along (out, node) known =
     ∙ ap (λ v. record { node = t.node; known = v }) (sym known) in
     subst (λ v. MeetsOut policy c s turns v) same (along, out)
 
--- an order that was taken
+-- an order that was taken, and what is said of that
 pub taken_so : {E : Type 0} (r : Result (Option ℕ) E) (form : Form) (o : Order) (m n : Meeting)
-    (asks : Option NodeAnswer) (old new : List ℕ) → NodeTakes o m.node asks n.node
-    → KnownAfterOrder asks m.node n.node m.known n.known → IfOk r (λ who. who ≡ whom_asked o asks)
-    → OnOk r (new ≡ old ++ asked_lines form o asks)
+    (asks said : Option NodeAnswer) (old new : List ℕ) → NodeTakes o m.node asks n.node
+    → KnownAfterOrder asks m.node n.node m.known n.known → asks ≡ said → IfOk r (λ who. who ≡ whom_asked o said)
+    → OnOk r (new ≡ old ++ asked_lines form o said)
     → IfOk r (λ who. (own : List ℕ) × TakesOrder form o m who n own × (new ≡ old ++ own))
-taken_so (Err e) form o m n asks old new takes knows is text = tt
-taken_so (Ok who) form o m n asks old new takes knows is text =
-    (asked_lines form o asks, inl (asks, takes, knows, is, refl), text)
+taken_so (Err e) form o m n asks said old new takes knows same is text = tt
+taken_so (Ok who) form o m n asks said old new takes knows same is text =
+    let Takes : Option NodeAnswer → Type 0 = λ v. NodeTakes o m.node v n.node in
+    let Knows : Option NodeAnswer → Type 0 = λ v. KnownAfterOrder v m.node n.node m.known n.known in
+    (asked_lines form o said, inl (said, subst Takes same takes, subst Knows same knows, is, refl), text)
+
+-- what was told asks for something
+pub asks_told : (told : Told) (answer : NodeAnswer) → (told ≡ Nothing → ⊥) → asks_as told answer ≡ Some answer
+asks_told Nothing answer some = absurd (some refl)
+asks_told told answer some = refl
 
 -- the parts of an answer, one behind the other
 pub answered : {T E : Type 0} (r : Result T E) (form : Form) (o : Asked) (s m t : Meeting) (who last : Option ℕ)

@@ -92,17 +92,6 @@ AreExtrasOf s (Some e) =
     (has_extras s ≡ true) × (e.applications ≡ s.applications) × (e.vendors ≡ s.vendors) × (e.firmware ≡ s.firmware)
     × (e.state_id ≡ s.state_id)
 
--- the node that the settings make, with what it must say alone
-pub record IsOwnOf (s : Settings) (n : Node) : Type 0 where
-  pub host : n.host ≡ s.host
-  pub realm : n.realm ≡ s.realm
-  pub addresses : n.addresses ≡ s.addresses
-  pub vendor : n.vendor ≡ s.vendor
-  pub product : n.product ≡ s.product
-  pub auth : n.auth ≡ s.auth
-  pub acct : n.acct ≡ s.acct
-  pub extras : n.extras ≡ None
-
 -- the node that the settings make
 pub record IsNodeOf (s : Settings) (n : Node) : Type 0 where
   pub host : n.host ≡ s.host

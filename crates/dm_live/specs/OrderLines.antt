@@ -1,5 +1,5 @@
 -- The lines of orders, to a peer alone and to a node of several neighbours.
-use Rattle.std.specs.Prelude.{◌≡◌, ℕ, Bool, true, false, Option, None, Some, List, [], ◌∷◌, codes}
+use Rattle.std.specs.Prelude.{◌≡◌, ℕ, Bool, true, false, Option, None, Some, List, [], ◌∷◌, codes, MatchOption}
 use Rattle.dm_text.specs.Words.{words}
 use Rattle.dm_text.specs.Numbers.{TellsNumber, TellsLongNumber}
 use Rattle.dm_text.specs.Hexadecimal.{word_octets}
@@ -144,6 +144,12 @@ TellsNodeRest form (Some n) o rest =
 -- an order of this name says this
 abbrev pub TellsNamed : Form → OrderName → AskedOfNode → List (List ℕ) → Type 0
 TellsNamed form name a rest = (order_name a.order ≡ name) × TellsNodeRest form a.to a.order rest
+
+-- what is read of the words behind this name: an order that they tell, or that they tell none
+abbrev pub ReadsNamed : Form → OrderName → List (List ℕ) → Option OrderLine → Type 0
+ReadsNamed form name rest read =
+    MatchOption read ((o : Asked) → TellsNamed form name (node_asked o) rest → ⊥)
+    (λ o. TellsNamed form name (told_order o) rest)
 
 -- the line of an order: its name, and what it says behind it
 abbrev pub TellsOrder : Form → AskedOfNode → List ℕ → Type 0

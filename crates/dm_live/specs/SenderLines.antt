@@ -20,12 +20,12 @@ abbrev pub IsSender : Form → ℕ → List ℕ → Type 0
 IsSender form n line =
     (rest : List (List ℕ)) × (words line ≡ codes "sender" ∷ rest) × NamesNeighbour form n rest []
 
--- a name and octets, a name and a number
+-- a name, the space behind it, and octets or a number
 unfoldable pub octets_line : List ℕ → List ℕ → List ℕ
-octets_line name octets = name ++ codes " " ++ encode_lower octets ++ 10 ∷ []
+octets_line name octets = name ++ encode_lower octets ++ 10 ∷ []
 
-unfoldable pub number_line : List ℕ → ℕ → List ℕ
-number_line name n = name ++ codes " " ++ decimal n ++ 10 ∷ []
+abbrev pub number_line : List ℕ → ℕ → List ℕ
+number_line name n = name ++ decimal n ++ 10 ∷ []
 
 -- the name and each number
 unfoldable pub number_lines : List ℕ → List ℕ → List ℕ
@@ -34,29 +34,21 @@ number_lines name numbers = flat_map (number_line name) numbers
 unfoldable pub number_line_if_any : List ℕ → Option ℕ → List ℕ
 number_line_if_any name n = number_lines name (option_to_list n)
 
--- what a CER or CEA says of its sender: in names
-unfoldable pub name_lines : List Avp → List ℕ
-name_lines l =
-    octets_line (codes "host") (data_at origin_host l) ++ octets_line (codes "realm") (data_at origin_realm l)
-    ++ octets_line (codes "product") (data_at product_name l)
-
--- in numbers
-unfoldable pub version_lines : List Avp → List ℕ
-version_lines l =
-    number_line_if_any (codes "vendor") (number_told vendor_id l)
-    ++ number_line_if_any (codes "firmware") (number_told firmware_revision l)
-
--- what it can do, and its state
-unfoldable pub ability_lines : List Avp → List ℕ
-ability_lines l =
-    number_lines (codes "application") (flat_map application_ids l)
-    ++ number_lines (codes "supports") (numbers_told supported_vendor_id l)
-    ++ number_line_if_any (codes "origin-state") (number_told origin_state_id l)
+-- what a CER or CEA says of its sender, what that can do, and its state
+unfoldable pub told_lines : List Avp → List ℕ
+told_lines l =
+    octets_line (codes "host ") (data_at origin_host l) ++ octets_line (codes "realm ") (data_at origin_realm l)
+    ++ octets_line (codes "product ") (data_at product_name l)
+    ++ number_line_if_any (codes "vendor ") (number_told vendor_id l)
+    ++ number_line_if_any (codes "firmware ") (number_told firmware_revision l)
+    ++ number_lines (codes "application ") (flat_map application_ids l)
+    ++ number_lines (codes "supports ") (numbers_told supported_vendor_id l)
+    ++ number_line_if_any (codes "origin-state ") (number_told origin_state_id l)
 
 -- what it says of its sender, or that there is nobody
 unfoldable pub exchange_lines : Option Message → List ℕ
 exchange_lines None = codes "nobody" ++ 10 ∷ []
-exchange_lines (Some m) = name_lines m.avps ++ version_lines m.avps ++ ability_lines m.avps
+exchange_lines (Some m) = told_lines m.avps
 
 -- it has begun anew since the time before
 unfoldable pub anew_line : Bool → List ℕ
@@ -66,7 +58,7 @@ anew_line false = []
 -- who the other side is, and what its Origin-State-Id was the time before
 abbrev pub sender_lines : Acquaintance → List ℕ
 sender_lines a =
-    exchange_lines (exchange_in a.octets) ++ number_line_if_any (codes "origin-state-before") a.before
+    exchange_lines (exchange_in a.octets) ++ number_line_if_any (codes "origin-state-before ") a.before
     ++ anew_line (began_anew (state_in a.octets) a.before)
 
 -- or that nobody has the number

@@ -74,7 +74,7 @@ setting_word names.Early = codes "early"
 setting_word names.Max = codes "max"
 
 -- an IPv4 or IPv6 address as text
-abbrev pub TellsAddress : Ip → List ℕ → Type 0
+unfoldable pub TellsAddress : Ip → List ℕ → Type 0
 TellsAddress ip word = (address : IpAddr) × IsIpText word address × (ip ≡ ip_words address)
 
 -- What the word behind a name makes of the settings. An address, an application and a peer stand behind those said

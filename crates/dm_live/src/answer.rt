@@ -2,15 +2,13 @@
 ghost use Rattle.std.specs.Prelude.{◌≡◌, ◌++◌, ℕ, List, None, IfOk, IfSome, IfNone, OnOk};
 ghost use Rattle.std.specs.String.{string_bytes};
 ghost use Rattle.dm_node.specs.NodeStates.{NodeTurn as OneTurn, NodeIsOut};
-ghost use Rattle.dm_node.specs.Answers.{asks_of, turn_in};
+ghost use Rattle.dm_node.specs.Answers.{turn_in};
 ghost use Rattle.dm_live.specs.Answers.{TakesOrder, MeetsNext, MeetsOut, Answers};
-ghost use Rattle.dm_live.specs.Answers.{asked_lines, turns_lines, whom_asked, whom_last};
-ghost use Rattle.dm_live.specs.Answers.{refuser, policy_of};
+ghost use Rattle.dm_live.specs.Answers.{turns_lines, whom_last, refuser, policy_of};
 ghost use Rattle.dm_live.specs.Meetings.{meeting_of};
-ghost use Rattle.dm_live.specs.OrderLines.{order_asked};
 
 use crate::answer_lines::{
-    put_answer_states, put_event_answer, put_ignored_unless_accept_or_reset,
+    put_action_lines, put_answer_states, put_ignored_unless_accept_or_reset,
     put_neighbour_line_if_any, put_order_refusal_line, put_turn,
 };
 use crate::asked::Asked;
@@ -62,7 +60,14 @@ fn answer_order(
         × (string_bytes text.new ≡ string_bytes text.old ++ own)) }
 {
     match node.order(alloc, order, answer) {
-        Ok(()) => put_order_outcome(text, form, order, answer),
+        Ok(()) => match answer.told {
+            Told::Nothing => put_ignored_unless_accept_or_reset(text, order),
+            _ => {
+                put_neighbour_line_if_any(text, form, answer.neighbour)?;
+                put_action_lines(text, answer.actions.as_slice())?;
+                Ok(answer.neighbour)
+            }
+        },
         Err(fault) => {
             let who = refusing_neighbour(order, fault);
             put_neighbour_line_if_any(text, form, who)?;
@@ -72,48 +77,22 @@ fn answer_order(
     }
 }
 
-/// Appends what an order comes to that was taken, and answers whom it concerns.
-fn put_order_outcome(
-    text: &mut String,
-    form: Form,
-    order: Order<'_>,
-    answer: &Answer,
-) -> Result<Option<usize>, AllocError>
-    ensures who { IfOk result (λ who. who ≡ whom_asked order.entry (asks_of answer.now)) }
-    ensures text { OnOk result (string_bytes text.new
-        ≡ string_bytes text.old ++ asked_lines form order.entry (asks_of answer.now)) }
-{
-    match answer.told {
-        Told::Nothing => put_ignored_unless_accept_or_reset(text, order),
-        _ => {
-            put_event_answer(text, form, answer)?;
-            Ok(answer.neighbour)
-        }
-    }
-}
-
-/// The neighbour that refuses an order with this fault; where nobody has the number that it names, none does.
+/// The neighbour that refuses an order with this fault: the one that the order names; none where nobody has the number.
 fn refusing_neighbour(order: Order<'_>, fault: OrderFault) -> Option<usize>
     ensures { result ≡ refuser order.entry fault }
 {
-    match fault {
-        OrderFault::Peer(_) => named_neighbour(order),
-        OrderFault::NoNeighbour => None,
-    }
-}
-
-/// The number of the neighbour that an order names, if it names one.
-fn named_neighbour(order: Order<'_>) -> Option<usize>
-    ensures { result ≡ (order_asked order.entry).to }
-{
-    match order {
-        Order::Start(index, _)
-        | Order::Timeout(index)
-        | Order::Tick(index)
-        | Order::Stop(index, _)
-        | Order::Submit(index, _)
-        | Order::Reset(index) => Some(index),
-        _ => None,
+    match (fault, order) {
+        (OrderFault::NoNeighbour, _) => None,
+        (
+            OrderFault::Peer(_),
+            Order::Start(index, _)
+            | Order::Timeout(index)
+            | Order::Tick(index)
+            | Order::Stop(index, _)
+            | Order::Submit(index, _)
+            | Order::Reset(index),
+        ) => Some(index),
+        (OrderFault::Peer(_), _) => None,
     }
 }
 

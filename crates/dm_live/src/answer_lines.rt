@@ -1,18 +1,16 @@
 //! The lines of an answer.
-ghost use Rattle.std.specs.Prelude.{◌≡◌, ◌≢◌, ◌++◌, None, Some, IfOk, IfSome, OnOk};
+ghost use Rattle.std.specs.Prelude.{◌≡◌, ◌≢◌, ◌++◌, None, IfOk, IfSome, OnOk};
 ghost use Rattle.std.specs.Option.{option_copied};
 ghost use Rattle.std.specs.String.{string_bytes};
-ghost use Rattle.dm_live.specs.AnswerLines.{action_line, action_lines, arrival_line, refusal_line};
+ghost use Rattle.dm_live.specs.AnswerLines.{action_line, action_lines, held_words, standing_words};
 ghost use Rattle.dm_node.specs.declared.fault.OrderFault.TheVariants as faults;
 ghost use Rattle.dm_peer.specs.declared.fault.PeerFault.TheVariants as peer_faults;
 ghost use Rattle.dm_node.specs.NodeSeen.{node_state_of};
-ghost use Rattle.dm_node.specs.Answers.{as_answer, turn_in};
-ghost use Rattle.dm_node.specs.declared.answer.Told.TheVariants.{Message};
-ghost use Rattle.dm_live.specs.Answers.{ignored_line, neighbour_line, event_lines, turn_lines, event_refusal_line};
+ghost use Rattle.dm_node.specs.Answers.{turn_in};
+ghost use Rattle.dm_live.specs.Answers.{ignored_line, neighbour_line, turn_lines, event_refusal_line};
 ghost use Rattle.dm_live.specs.Answers.{state_line, states_lines, states_behind, whom_asked};
 ghost use Rattle.dm_live.specs.OrderLines.{order_asked};
 ghost use Rattle.dm_live.specs.Served.{fault_answer};
-ghost use Rattle.dm_live.specs.AnswerLines.{held_words, standing_words};
 
 use crate::asked::Asked;
 use crate::form::Form;
@@ -24,7 +22,7 @@ use dm_text::put_decimal;
 use std::alloc::AllocError;
 
 /// Appends the line of an action.
-#[tactic(auto, unfolding(crate::specs::AnswerLines::action_line))]
+#[tactic(auto, unfolding(crate::specs::AnswerLines::action_line, crate::specs::SenderLines::octets_line))]
 fn put_action_line(text: &mut String, action: &Action) -> Result<(), AllocError>
     ensures { OnOk result (string_bytes text.new ≡ string_bytes text.old ++ action_line action.now) }
 {
@@ -41,27 +39,13 @@ fn put_action_line(text: &mut String, action: &Action) -> Result<(), AllocError>
 }
 
 /// Appends the lines of actions, in order.
-fn put_action_lines(text: &mut String, actions: &[Action]) -> Result<(), AllocError>
+pub(crate) fn put_action_lines(text: &mut String, actions: &[Action]) -> Result<(), AllocError>
     ensures { OnOk result (string_bytes text.new ≡ string_bytes text.old ++ action_lines actions.now) }
 {
     for action in actions {
         put_action_line(text, action)?;
     }
     Ok(())
-}
-
-/// Appends that a whole message came on the connection, where that was told.
-#[tactic(auto, unfolding(crate::specs::AnswerLines::arrival_line))]
-fn put_arrival_line_if_message(text: &mut String, conn: Conn, told: Told) -> Result<(), AllocError>
-    ensures message { told ≡ Message
-        → OnOk result (string_bytes text.new ≡ string_bytes text.old ++ arrival_line (Some conn)) }
-    ensures other { (told ≡ Message → ⊥)
-        → OnOk result (string_bytes text.new ≡ string_bytes text.old ++ arrival_line None) }
-{
-    match told {
-        Told::Message => put_words_number_and_line_end(text, "arrived ", conn.0),
-        _ => Ok(()),
-    }
 }
 
 /// Appends that the line of this number has this fault, and the dot that ends its answer.
@@ -126,20 +110,8 @@ pub(crate) fn put_neighbour_line_if_any(
     }
 }
 
-/// Appends the lines of what an event asked for.
-pub(crate) fn put_event_answer(
-    text: &mut String,
-    form: Form,
-    answer: &Answer,
-) -> Result<(), AllocError>
-    ensures { OnOk result (string_bytes text.new
-        ≡ string_bytes text.old ++ event_lines form (as_answer answer.now)) }
-{
-    put_neighbour_line_if_any(text, form, answer.neighbour)?;
-    put_action_lines(text, answer.actions.as_slice())
-}
-
 /// Appends the lines of a message of the connection that was told, or of a fault.
+#[tactic(auto, unfolding(crate::specs::AnswerLines::arrival_line))]
 pub(crate) fn put_turn(
     text: &mut String,
     form: Form,
@@ -150,7 +122,9 @@ pub(crate) fn put_turn(
         ≡ string_bytes text.old ++ turn_lines form told)) }
 {
     put_neighbour_line_if_any(text, form, turn.neighbour)?;
-    put_arrival_line_if_message(text, conn, turn.told)?;
+    if let Told::Message = turn.told {
+        put_words_number_and_line_end(text, "arrived ", conn.0)?;
+    }
     put_action_lines(text, turn.actions.as_slice())
 }
 
@@ -201,19 +175,15 @@ fn put_state_line_if_there(
     ensures { OnOk result (string_bytes text.new
         ≡ string_bytes text.old ++ state_line form index (option_copied peer.entry)) }
 {
-    match (form, peer) {
-        (_, None) => Ok(()),
-        (Form::Alone, Some(peer)) => {
-            text.push_str("state ")?;
-            put_standing_and_line_end(text, peer)
-        }
-        (Form::Several, Some(peer)) => {
-            text.push_str("state ")?;
-            put_decimal(text, index as u64)?;
-            text.push_str(" ")?;
-            put_standing_and_line_end(text, peer)
-        }
+    let Some(peer) = peer else {
+        return Ok(());
+    };
+    text.push_str("state ")?;
+    if let Form::Several = form {
+        put_decimal(text, index as u64)?;
+        text.push_str(" ")?;
     }
+    put_standing_and_line_end(text, peer)
 }
 
 /// Appends how each neighbour stands, in order.

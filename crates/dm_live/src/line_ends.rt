@@ -2,7 +2,7 @@
 ghost use Rattle.std.specs.Prelude.{◌≡◌, ◌∷◌, ◌++◌, [], OnOk};
 ghost use Rattle.std.specs.Fmt.{decimal};
 ghost use Rattle.std.specs.String.{string_bytes};
-ghost use Rattle.hex.specs.Hex.{encode_lower};
+ghost use Rattle.dm_live.specs.SenderLines.{octets_line};
 
 use dm_text::{put_decimal, put_hexadecimal};
 use std::alloc::AllocError;
@@ -21,13 +21,13 @@ pub(crate) fn put_words_number_and_line_end(
 }
 
 /// Appends words, octets in hexadecimal, and the end of the line.
+#[tactic(auto, unfolding(crate::specs::SenderLines::octets_line))]
 pub(crate) fn put_words_octets_and_line_end(
     text: &mut String,
     words: &str,
     octets: &[u8],
 ) -> Result<(), AllocError>
-    ensures { OnOk result (string_bytes text.new
-        ≡ string_bytes text.old ++ words.now ++ encode_lower octets.now ++ 10 ∷ []) }
+    ensures { OnOk result (string_bytes text.new ≡ string_bytes text.old ++ octets_line words.now octets.now) }
 {
     text.push_str(words)?;
     put_hexadecimal(text, octets)?;

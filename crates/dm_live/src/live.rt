@@ -1,10 +1,8 @@
 //! A run of the program, line by line: the configuration up to `go`, and the lines of the node behind it.
 ghost use Rattle.std.specs.Prelude.{◌≡◌, ◌++◌, ℕ, List, true, false, OnOk};
 ghost use Rattle.std.specs.String.{string_bytes};
-ghost use Rattle.dm_live.specs.Drafts.{settings_of};
 ghost use Rattle.dm_live.specs.Meetings.{meeting_of};
-ghost use Rattle.dm_live.specs.Served.{Drafting, IsGo};
-ghost use Rattle.dm_live.specs.Served.{AnswersSetting, AnswersOrder, AnswersLine};
+ghost use Rattle.dm_live.specs.Served.{Drafting, IsGo, AnswersOrder, AnswersLine};
 ghost use Rattle.dm_live.specs.Settings.{no_settings};
 ghost use Rattle.dm_live.specs.Stages.{stage_of};
 
@@ -66,18 +64,13 @@ impl Live {
         }
         if is_go(line) {
             let begun = answer_go(alloc, &self.draft, number, text)?;
-            self.set_begun(begun);
+            drop(mem::replace(&mut self.begun, begun));
             return Ok(());
         }
-        take_line_or_put_fault(&mut self.draft, number, line, text)
-    }
-
-    /// Goes on with what was begun. It takes no memory.
-    fn set_begun(&mut self, begun: Begun)
-        ensures draft { self.new.draft ≡ self.old.draft }
-        ensures begun { self.new.begun ≡ begun }
-    {
-        drop(mem::replace(&mut self.begun, begun));
+        if self.draft.take_line(line)? {
+            return Ok(());
+        }
+        put_fault_line_and_dot(text, number, "Syntax")
     }
 }
 
@@ -90,25 +83,6 @@ fn is_go(line: &[u8]) -> bool
     match left.next() {
         Some(b"go") => left.next().is_none(),
         _ => false,
-    }
-}
-
-/// Goes on with a line that doesn't end the configuration, and answers a bad one.
-fn take_line_or_put_fault(
-    draft: &mut Draft,
-    number: u64,
-    line: &[u8],
-    text: &mut String,
-) -> Result<(), AllocError>
-    requires { IsGo line.now → ⊥ }
-    ensures { OnOk result ((answer : List ℕ)
-        × AnswersSetting number line.now (settings_of draft.old) (settings_of draft.new) answer
-        × (string_bytes text.new ≡ string_bytes text.old ++ answer)) }
-{
-    if draft.take_line(line)? {
-        Ok(())
-    } else {
-        put_fault_line_and_dot(text, number, "Syntax")
     }
 }
 

@@ -1,21 +1,19 @@
 //! The lines of orders, read.
-ghost use Rattle.std.specs.Prelude.{◌≡◌, ◌≢◌, IfOk, IfSome, IfNone, MatchOption};
+ghost use Rattle.std.specs.Prelude.{◌≡◌, ◌≢◌, IfOk, MatchOption};
 ghost use Rattle.dm_text.specs.Words.{words};
 ghost use Rattle.dm_live.specs.declared.asked.Asked.{Asked as OneAsked};
-ghost use Rattle.dm_live.specs.OrderLines.{node_asked, told_order, TellsNamed, TellsOrder};
+ghost use Rattle.dm_live.specs.OrderLines.{node_asked, told_order, ReadsNamed, TellsOrder};
 
 use crate::asked::Asked;
 use crate::form::Form;
 use crate::order_name::{OrderName, read_order_name};
-use crate::order_words::{
-    next_conn, next_neighbour, only_cause_left, only_conn_left, only_neighbour_left,
-};
+use crate::order_words::{next_neighbour, only_conn_left, only_neighbour_left};
 use dm_base::Cause;
 use dm_machine::Conn;
 use dm_node::Order;
 use dm_text::{Words, read_hex_word, read_long_number};
 use dm_wire::Octets;
-use dm_words::only_word_left;
+use dm_words::{next_long_number, only_word_left, read_disconnect_cause_by_number};
 use std::alloc::{AllocError, Global};
 
 /// An order as a line tells it, with its octets. A peer is named by its number, which is 0 where it is alone.
@@ -77,7 +75,6 @@ pub fn read_order_line(
     match read_order_name(word) {
         Some(OrderName::Octets) => read_piece(alloc, form, &mut left),
         Some(OrderName::Submit) => read_submit(alloc, form, &mut left),
-        Some(OrderName::Reset) => Ok(read_reset(form, &mut left)),
         Some(name) => Ok(read_order_of_name(form, name, &mut left)),
         None => Ok(None),
     }
@@ -87,10 +84,7 @@ pub fn read_order_line(
 fn read_order_of_name(form: Form, name: OrderName, left: &mut Words<'_>) -> Option<OrderLine>
     requires octets { name ≢ OrderName.Octets }
     requires submit { name ≢ OrderName.Submit }
-    requires reset { name ≢ OrderName.Reset }
-    ensures told { IfSome result (λ o. TellsNamed form name (told_order o) (words left.old)) }
-    ensures none { IfNone result ((o : OneAsked)
-        → TellsNamed form name (node_asked o) (words left.old) → ⊥) }
+    ensures { ReadsNamed form name (words left.old) result }
 {
     match name {
         OrderName::Start => {
@@ -106,32 +100,21 @@ fn read_order_of_name(form: Form, name: OrderName, left: &mut Words<'_>) -> Opti
         OrderName::Tick => Some(OrderLine::Tick(only_neighbour_left(form, left)?)),
         OrderName::Stop => {
             let index = next_neighbour(form, left)?;
-            let cause = only_cause_left(left)?;
+            let cause = read_disconnect_cause_by_number(only_word_left(left)?)?;
             Some(OrderLine::Stop(index, cause))
         }
-        OrderName::Octets | OrderName::Submit | OrderName::Reset => None,
-    }
-}
-
-/// The order that each neighbour begins anew, or of several the one that is named; None where the words behind `reset`
-/// are others.
-fn read_reset(form: Form, left: &mut Words<'_>) -> Option<OrderLine>
-    ensures told { IfSome result (λ o. TellsNamed form OrderName.Reset (told_order o) (words left.old)) }
-    ensures none { IfNone result ((o : OneAsked)
-        → TellsNamed form OrderName.Reset (node_asked o) (words left.old) → ⊥) }
-{
-    let Some(word) = left.next() else {
-        return Some(OrderLine::ResetAll);
-    };
-    match form {
-        Form::Alone => None,
-        Form::Several => {
-            let index = read_long_number(word)?;
-            if left.next().is_some() {
-                return None;
+        OrderName::Reset => match (left.next(), form) {
+            (None, _) => Some(OrderLine::ResetAll),
+            (Some(_), Form::Alone) => None,
+            (Some(word), Form::Several) => {
+                let index = read_long_number(word)?;
+                if left.next().is_some() {
+                    return None;
+                }
+                Some(OrderLine::Reset(index as usize))
             }
-            Some(OrderLine::Reset(index as usize))
-        }
+        },
+        OrderName::Octets | OrderName::Submit => None,
     }
 }
 
@@ -141,15 +124,9 @@ fn read_piece(
     form: Form,
     left: &mut Words<'_>,
 ) -> Result<Option<OrderLine>, AllocError>
-    ensures told { IfOk result (λ read. IfSome read (λ o.
-        TellsNamed form OrderName.Octets (told_order o) (words left.old))) }
-    ensures none { IfOk result (λ read. IfNone read ((o : OneAsked)
-        → TellsNamed form OrderName.Octets (node_asked o) (words left.old) → ⊥)) }
+    ensures { IfOk result (λ read. ReadsNamed form OrderName.Octets (words left.old) read) }
 {
-    let Some(conn) = next_conn(left) else {
-        return Ok(None);
-    };
-    let Some(word) = only_word_left(left) else {
+    let (Some(conn), Some(word)) = (next_long_number(left).map(Conn), only_word_left(left)) else {
         return Ok(None);
     };
     match read_hex_word(alloc, word)? {
@@ -164,15 +141,9 @@ fn read_submit(
     form: Form,
     left: &mut Words<'_>,
 ) -> Result<Option<OrderLine>, AllocError>
-    ensures told { IfOk result (λ read. IfSome read (λ o.
-        TellsNamed form OrderName.Submit (told_order o) (words left.old))) }
-    ensures none { IfOk result (λ read. IfNone read ((o : OneAsked)
-        → TellsNamed form OrderName.Submit (node_asked o) (words left.old) → ⊥)) }
+    ensures { IfOk result (λ read. ReadsNamed form OrderName.Submit (words left.old) read) }
 {
-    let Some(index) = next_neighbour(form, left) else {
-        return Ok(None);
-    };
-    let Some(word) = only_word_left(left) else {
+    let (Some(index), Some(word)) = (next_neighbour(form, left), only_word_left(left)) else {
         return Ok(None);
     };
     match read_hex_word(alloc, word)? {

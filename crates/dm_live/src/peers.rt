@@ -4,7 +4,8 @@ ghost use Rattle.dm_node.specs.Holding.{IsKnown};
 ghost use Rattle.dm_peer.specs.Hosts.{config_fault};
 ghost use Rattle.dm_node.specs.NodeSeen.{node_state_of, node_known_of};
 ghost use Rattle.dm_node.specs.NodeKnown.{with_nobody};
-ghost use Rattle.dm_live.specs.Beginnings.{IsConfiguredFor, BeginsForHosts, AreUnmet, peers_fault, first_told};
+ghost use Rattle.dm_live.specs.Beginnings.{IsConfiguredFor, BeginsForHosts, AreUnmet};
+ghost use Rattle.dm_live.specs.Beginnings.{peers_fault, first_told, go_fault};
 ghost use Rattle.dm_live.specs.Drafts.{settings_of};
 ghost use Rattle.dm_live.specs.Joining.{AddsLike, RefusesHost};
 
@@ -69,25 +70,26 @@ fn add_all_peers(
     Ok(Ok(()))
 }
 
-/// The node with the neighbours that the draft tells, or the name of why the first can't be had that
-/// can't.
+/// The node with the neighbours that the draft tells, or the name of why it begins none.
 pub(crate) fn node_with_peers(
     alloc: Global,
     draft: &Draft,
-    template: &Config,
 ) -> Result<Result<Node, &'static str>, AllocError>
-    requires made { IsConfiguredFor (settings_of draft.now) (first_told (settings_of draft.now).peers) template.now }
     ensures begun { IfOk result (λ made. IfOk made (λ node. BeginsForHosts (settings_of draft.now)
         (settings_of draft.now).peers (node_state_of node))) }
     ensures unmet { IfOk result (λ made. IfOk made (λ node. AreUnmet (node_known_of node))) }
-    ensures good { IfOk result (λ made. OnOk made (peers_fault (settings_of draft.now).host []
-        (settings_of draft.now).peers ≡ None)) }
-    ensures fault { IfOk result (λ made. IfErr made (λ name. peers_fault (settings_of draft.now).host []
-        (settings_of draft.now).peers ≡ Some name.now)) }
+    ensures good { IfOk result (λ made. OnOk made (go_fault (settings_of draft.now) ≡ None)) }
+    ensures fault { IfOk result (λ made. IfErr made (λ name. go_fault (settings_of draft.now) ≡ Some name.now)) }
 {
+    let template = match draft.config_for_first_peer(alloc)? {
+        Ok(config) => config,
+        Err(name) => return Ok(Err(name)),
+    };
     let own = template.node().clone()?;
     let mut node = Node::new(alloc, own, draft.first_max, draft.most);
-    match add_all_peers(alloc, draft, template, &mut node) {
+    let added = add_all_peers(alloc, draft, &template, &mut node);
+    drop(template);
+    match added {
         Ok(Ok(())) => Ok(Ok(node)),
         Ok(Err(name)) => {
             drop(node);

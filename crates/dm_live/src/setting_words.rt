@@ -1,6 +1,6 @@
 //! The words behind the names of configuration lines. Each helper answers false, and changes nothing, where nothing is
 //! told.
-ghost use Rattle.std.specs.Prelude.{◌≡◌, ◌∷◌, ◌++◌, [], true, false, IfOk, IfSome, IfNone, OnOk};
+ghost use Rattle.std.specs.Prelude.{◌≡◌, ◌∷◌, ◌++◌, [], true, false, IfOk, IfSome, IfNone};
 ghost use Rattle.std.specs.Str.{IsUtf8};
 ghost use Rattle.std.specs.String.{string_bytes};
 ghost use Rattle.dm_value.specs.declared.address.Ip.{Ip as AnIp};
@@ -14,8 +14,7 @@ use std::str;
 
 /// Takes the word as the name, in place of the one said before. Any word is one, so it answers true.
 pub(crate) fn set_name_to_any_word(name: &mut Vec<u8>, word: &[u8]) -> Result<bool, AllocError>
-    ensures put { OnOk result (name.new.items ≡ word.now) }
-    ensures good { IfOk result (λ good. good ≡ true) }
+    ensures { IfOk result (λ good. (good ≡ true) × (name.new.items ≡ word.now)) }
 {
     name.clear();
     name.extend_from_slice(word)?;
@@ -24,8 +23,7 @@ pub(crate) fn set_name_to_any_word(name: &mut Vec<u8>, word: &[u8]) -> Result<bo
 
 /// Puts the word as a name behind those said before. Any word is one, so it answers true.
 pub(crate) fn push_any_word_as_name(list: &mut Vec<Octets>, word: &[u8]) -> Result<bool, AllocError>
-    ensures put { OnOk result (list.new.items ≡ list.old.items ++ word.now ∷ []) }
-    ensures good { IfOk result (λ good. good ≡ true) }
+    ensures { IfOk result (λ good. (good ≡ true) × (list.new.items ≡ list.old.items ++ word.now ∷ [])) }
 {
     let name = Octets::from_slice(*list.allocator(), word)?;
     list.push(name)?;
@@ -38,41 +36,21 @@ pub(crate) fn set_text(text: &mut String, word: &[u8]) -> Result<bool, AllocErro
     ensures bad { IfOk result (λ good. good ≡ false → IsUtf8 word.now → ⊥) }
     ensures kept { IfOk result (λ good. good ≡ false → string_bytes text.new ≡ string_bytes text.old) }
 {
-    match str::from_utf8(word) {
-        Ok(words) => {
-            text.clear();
-            text.push_str(words)?;
-            Ok(true)
-        }
-        Err(_) => Ok(false),
-    }
+    let Ok(words) = str::from_utf8(word) else {
+        return Ok(false);
+    };
+    text.clear();
+    text.push_str(words)?;
+    Ok(true)
 }
 
 /// The address that a word tells; None where it tells none.
-fn read_address(word: &[u8]) -> Option<Ip>
+#[tactic(auto, unfolding(crate::specs::Settings::TellsAddress))]
+pub(crate) fn read_address(word: &[u8]) -> Option<Ip>
     ensures told { IfSome result (λ ip. TellsAddress ip word.now) }
     ensures none { IfNone result ((ip : AnIp) → TellsAddress ip word.now → ⊥) }
 {
-    match IpAddr::parse_ascii(word) {
-        Ok(address) => Some(Ip::from(address)),
-        Err(_) => None,
-    }
-}
-
-/// Puts the address that the word tells behind those said before; false where it tells none.
-pub(crate) fn push_address(list: &mut Vec<Ip>, word: &[u8]) -> Result<bool, AllocError>
-    ensures put { IfOk result (λ good. good ≡ true → (ip : AnIp) × TellsAddress ip word.now
-        × (list.new.items ≡ list.old.items ++ ip ∷ [])) }
-    ensures bad { IfOk result (λ good. good ≡ false → (ip : AnIp) → TellsAddress ip word.now → ⊥) }
-    ensures kept { IfOk result (λ good. good ≡ false → list.new.items ≡ list.old.items) }
-{
-    match read_address(word) {
-        Some(ip) => {
-            list.push(ip)?;
-            Ok(true)
-        }
-        None => Ok(false),
-    }
+    Some(Ip::from(IpAddr::parse_ascii(word).ok()?))
 }
 
 /// Takes what is told in place of what was said before; false where nothing is told.
@@ -80,13 +58,11 @@ pub(crate) fn set_if_told<T: Copy>(place: &mut T, told: Option<T>) -> bool
     ensures put { IfSome told (λ value. (result ≡ true) × (place.new ≡ value)) }
     ensures kept { IfNone told ((result ≡ false) × (place.new ≡ place.old)) }
 {
-    match told {
-        Some(value) => {
-            *place = value;
-            true
-        }
-        None => false,
-    }
+    let Some(value) = told else {
+        return false;
+    };
+    *place = value;
+    true
 }
 
 /// Puts what is told behind what was said before; false where nothing is told.
@@ -95,11 +71,9 @@ pub(crate) fn push_if_told<T: Copy>(list: &mut Vec<T>, told: Option<T>) -> Resul
         × (list.new.items ≡ list.old.items ++ value ∷ []))) }
     ensures kept { IfNone told (IfOk result (λ good. (good ≡ false) × (list.new.items ≡ list.old.items))) }
 {
-    match told {
-        Some(value) => {
-            list.push(value)?;
-            Ok(true)
-        }
-        None => Ok(false),
-    }
+    let Some(value) = told else {
+        return Ok(false);
+    };
+    list.push(value)?;
+    Ok(true)
 }

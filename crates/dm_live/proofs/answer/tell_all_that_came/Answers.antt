@@ -1,11 +1,10 @@
-use Rattle.std.proofs.Common.{◌≡◌, [], ◌∷◌, ◌++◌, ap, ◌∙◌, sym}
+use Rattle.std.proofs.Common.{◌≡◌, [], ◌∷◌, ◌++◌, ap, ◌∙◌, sym, subst, IfNone}
 use Rattle.std.specs.Option.{option_or}
 use Rattle.std.specs.String.{string_bytes}
-use Rattle.dm_node.specs.Answers.{as_answer, turn_told, turn_in}
+use Rattle.dm_node.specs.Answers.{as_answer, turn_told}
 use Rattle.dm_node.specs.NodeStates.{NodeTurn, NodeIsOut}
 use Rattle.dm_live.specs.Answers.{turn_lines, policy_of, MeetsNext}
 use Rattle.dm_live.specs.Meetings.{meeting_of}
-use Rattle.dm_live.proofs.Options.{none-holds}
 use Rattle.dm_live.proofs.Turns.{along_out, along_push, text_push, turn_of, whom_after}
 use Rattle.dm_live.proofs.answer.tell_all_that_came.Goals as goal
 
@@ -16,9 +15,9 @@ returns-in-Nothing c =
     let m = meeting_of c.turn.node in
     let t = meeting_of c.tell_turn_if_any.new.node in
     let none = ap (λ v. turn_told c.args.conn v (as_answer answer)) c.in-Nothing.is in
-    let out = none-holds (NodeIsOut c.args.conn m.node × (t.node ≡ m.node)) (turn_in c.args.conn answer) none
+    let out = subst (λ v. IfNone v (NodeIsOut c.args.conn m.node × (t.node ≡ m.node))) none
     c.in_ok-tell_turn_if_any.ensures.out in
-    let unmet = none-holds (t.known ≡ m.known) (turn_in c.args.conn answer) none c.in_ok-tell_turn_if_any.ensures.unmet in
+    let unmet = subst (λ v. IfNone v (t.known ≡ m.known)) none c.in_ok-tell_turn_if_any.ensures.unmet in
     (so.0, along_out (policy_of c.args.form) c.args.conn _ m t so.0 so.1 out unmet, so.2, so.3)
 
 pub turn-preserved : goal.turn-preserved

@@ -1,4 +1,4 @@
-use Rattle.std.proofs.Common.{ℕ, List, Option, MatchOption, inl, inr, refl, subst, sym}
+use Rattle.std.proofs.Common.{ℕ, List, Option, MatchOption, IfNone, inl, inr, refl, subst, sym}
 use Rattle.dm_live.specs.declared.asked.Asked.{Asked}
 use Rattle.dm_live.specs.declared.form.Form.{Form}
 use Rattle.dm_live.specs.declared.order_line.OrderLine.{OrderLine}
@@ -6,7 +6,6 @@ use Rattle.dm_live.specs.Meetings.{meeting_of}
 use Rattle.dm_live.specs.OrderLines.{AskedOfNode, node_asked, told_order, TellsOrder}
 use Rattle.dm_live.specs.SenderLines.{IsSender}
 use Rattle.dm_live.specs.Served.{bad_answer, AnswersOrder}
-use Rattle.dm_live.proofs.Options.{none-holds}
 use Rattle.dm_live.proofs.Stages.{answers, answers_with_dot}
 use Rattle.dm_live.proofs.live.answer_line_by_running_node.Goals as goal
 
@@ -30,7 +29,7 @@ returns-in_ok-answer_asked_without_dot-in-Some-2 c =
 pub returns-in-None : goal.returns-in-None
 returns-in-None c =
     let s = meeting_of c.args.node.now in
-    let asks_none = none-holds ((i : ℕ) → IsSender c.args.form i c.args.line.now → ⊥) c.read_sender_line.result
+    let asks_none = subst (λ v. IfNone v ((i : ℕ) → IsSender c.args.form i c.args.line.now → ⊥))
     c.in_default.is c.read_sender_line.ensures.none in
     let tells_none = subst (Reads c.args.form c.args.line.now) c.in-None.is c.in_ok-order.ensures in
     answers _ (AnswersOrder c.args.number c.args.form c.args.line.now s s) _ _ (bad_answer c.args.number)

@@ -1,10 +1,10 @@
 use Rattle.std.proofs.Common.{◌≡◌, List, ℕ, ◌∷◌, Bor, ap, ◌∙◌, sym, subst}
+use Rattle.std.proofs.lemmas.Result.{IfOk-at_ok, IfErr-at_err}
 use Rattle.dm_node.specs.NodeSeen.{node_state_of}
 use Rattle.dm_live.specs.Beginnings.{first_told}
 use Rattle.dm_live.specs.Drafts.{settings_of}
 use Rattle.dm_live.specs.Joining.{RefusesHost}
 use Rattle.dm_live.proofs.Joining.{Joining, joining_more, joining_refused, unmet_more}
-use Rattle.dm_live.proofs.Options.{ok-holds, err-holds}
 use Rattle.dm_live.proofs.peers.add_all_peers.Goals as goal
 
 pub host-preserved : goal.host-preserved
@@ -19,9 +19,9 @@ host-preserved c =
     let added = c.in_ok-name.ensures in
     let is = c.in_default-2.is in (
       joining_more s (first_told s.peers) c.args.template.now host more t (node_state_of c.add_peer.new.node)
-          c.requires.made (subst Left left c.host.invariant.0) (ok-holds _ _ _ is added.added)
-          (ok-holds _ _ _ is added.fit) (ok-holds _ _ _ is added.new),
-      unmet_more _ _ c.host.invariant.1 (ok-holds _ _ _ is added.unmet),
+          c.requires.made (subst Left left c.host.invariant.0) (IfOk-at_ok _ is added.added)
+          (IfOk-at_ok _ is added.fit) (IfOk-at_ok _ is added.new),
+      unmet_more _ _ c.host.invariant.1 (IfOk-at_ok _ is added.unmet),
     )
 
 pub returns-in-Err-clause-fault : goal.returns-in-Err-clause-fault
@@ -35,4 +35,4 @@ returns-in-Err-clause-fault c =
     c.in-Some.ensures.cases.0 ∙ ap (λ v. v ∷ more) (sym c.as_slice.ensures) in
     let Refuses : Bor (List ℕ) → Type 0 = λ name. RefusesHost c.args.template.now.node.host t.peers host name.now in
     joining_refused s (first_told s.peers) c.args.template.now host c.in-Err.name.now more t c.requires.made
-    (subst Left left c.host.invariant.0) (err-holds Refuses _ c.in-Err.name c.in-Err.is c.in_ok-name.ensures.fault)
+    (subst Left left c.host.invariant.0) (IfErr-at_err Refuses c.in-Err.is c.in_ok-name.ensures.fault)
