@@ -10,7 +10,7 @@ use Rattle.dm_slots.specs.declared.intake.Front.{Front}
 use Rattle.dm_slots.specs.declared.slots.Slot.{Slot}
 use Rattle.dm_slots.specs.declared.intake.Front.TheVariants.{Nothing, Message, Fault}
 use Rattle.dm_slots.specs.Fronts.{IsFront, IsFrontAt}
-use Rattle.dm_slots.specs.Intakes.{Intake, Intakes, IsToldOut, actions_close, is_close_of, left_by, taken_down, raised_at, with_max}
+use Rattle.dm_slots.specs.Intakes.{Intake, Intakes, IsToldOut, actions_close, is_close_of, left_by, taken_down}
 use Rattle.dm_slots.specs.Held.{Owners, disowned_by, closed_by}
 use Rattle.dm_slots.specs.Hearing.{IsWholeIn, IsNotWhole, IsWholeAt}
 
@@ -87,19 +87,6 @@ pub cut_first : (list : List Action) (a : Action) → 1 ≤ length list → a �
     → list ≡ a ∷ take (length list - 1) (drop 1 list)
 cut_first [] a some is = absurd (omega (arith, some))
 cut_first (b ∷ list) a some is = ap (λ v. v ∷ list) (sym is) ∙ ap (λ v. a ∷ v) (sym (take_rest (b ∷ list) 1))
-
-raised_before_at : (c d max : ℕ) (i : Intake) (f : Intakes) → f c ≡ Some i → i.max ≡ max → (b : Bool) → nat_eq c d ≡ b
-    → cond b (option_map (with_max max) (f d)) (f d) ≡ f d
-raised_before_at c d max i f there is true e =
-    let at : f d ≡ Some i = ap f (sym (eqb-true c d e)) ∙ there in
-    subst (λ o. option_map (with_max max) o ≡ o) (sym at)
-    (ap (λ m. Some (with_max m i)) (sym is))
-raised_before_at c d max i f there is false e = refl
-
--- a connection that takes messages up to the maximum already
-pub raised_before : (c : Conn) (max : ℕ) (i : Intake) (f : Intakes) → f c.0 ≡ Some i → i.max ≡ max
-    → raised_at max (Some c) f ≡ f
-raised_before c max i f there is = fun_ext (λ d. raised_before_at c.0 d max i f there is (nat_eq c.0 d) refl)
 
 -- a connection that gets what it has
 pub kept_at : (c d : ℕ) (i : Intake) (f : Intakes) → Some i ≡ f c → (b : Bool) → nat_eq c d ≡ b

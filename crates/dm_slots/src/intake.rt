@@ -139,13 +139,6 @@ impl Intake {
         self.is_broken = true;
     }
 
-    /// The greatest Message Length. It never answers want of memory.
-    pub(crate) fn max_message_len(&self) -> u32
-        ensures { result ≡ self.now.max }
-    {
-        self.framer.max()
-    }
-
     /// Sets the greatest Message Length. It never answers want of memory.
     pub(crate) fn set_max_message_len(&mut self, max: u32)
         ensures { self.new ≡ with_max max self.old }

@@ -9,4 +9,4 @@ mod slots;
 pub use acquaintance::{Acquaintance, is_exchange_before_open};
 pub use dm_peer::{Action, Conn};
 pub use intake::Front;
-pub use slots::Slots;
+pub use slots::{Arrival, Slots};

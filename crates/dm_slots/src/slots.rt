@@ -1,5 +1,5 @@
 //! The connections that are there, by number.
-ghost use Rattle.std.specs.Prelude.{◌≡◌, ◌∷◌, [], ℕ, true, false, List, Some, IfSome, IfNone, IfOk, cond, take};
+ghost use Rattle.std.specs.Prelude.{◌≡◌, ◌∷◌, [], ℕ, true, false, List, Option, None, Some, IfSome, IfNone, IfOk, cond, take};
 ghost use Rattle.std.specs.Prelude.{OnOk, OnErr};
 ghost use Rattle.std.specs.Option.{option_copied, option_map};
 ghost use Rattle.dm_framer.specs.Frames.{BeginsWithNoFrame};
@@ -25,13 +25,52 @@ pub(crate) struct Slot {
     owner: Option<usize>,
 }
 
+/// What is said of a piece that came on a connection.
+#[derive(Clone, Copy)]
+pub struct Arrival {
+    /// Whose the connection is, where it is there and has an owner.
+    pub owner: Option<usize>,
+    /// How many octets the whole message has with which the piece begins, where the connection is there and nothing is
+    /// kept of it.
+    pub message_len: Option<usize>,
+}
+
 /// The connections that are there, by number, each with what came on it and wasn't told yet, and with its owner. Who
 /// drives peers has them beside those.
 #[derive(Drop)]
 pub struct Slots {
     map: IndexMap<u64, Slot>,
-    /// The place in `map` of the connection whose greatest Message Length was looked at last. It is looked at first.
+    /// The place in `map` of the connection that is looked at first: the one on which octets came last.
     last: usize,
+}
+
+/// What is said of a piece that came on a connection which isn't there.
+fn nowhere() -> Arrival
+    ensures owner { result.owner ≡ None }
+    ensures none { result.message_len ≡ None }
+{
+    Arrival {
+        owner: None,
+        message_len: None,
+    }
+}
+
+impl Slot {
+    #[tactic(auto, using(crate::proofs::Steps::whole, crate::proofs::Steps::not_whole))]
+    /// What is said of a piece that came on the connection.
+    #[inline(always)]
+    fn arrival(&self, piece: &[u8]) -> Arrival
+        ensures owner { result.owner ≡ self.now.owner }
+        ensures whole { (o : Option OneIntake) → Some self.now.intake ≡ o
+            → IfSome result.message_len (λ size. IsWholeAt o piece.now size) }
+        ensures none { (o : Option OneIntake) → Some self.now.intake ≡ o
+            → IfNone result.message_len (IfSome o (λ i. IsNotWhole i piece.now)) }
+    {
+        Arrival {
+            owner: self.owner,
+            message_len: self.intake.whole_message_len(piece),
+        }
+    }
 }
 
 impl Slots {
@@ -46,14 +85,26 @@ impl Slots {
         }
     }
 
+    /// The connection, where it is the one that is looked at first.
+    #[inline(always)]
+    fn slot_looked_at_first(&self, conn: Conn) -> Option<&Slot>
+        ensures intake { IfSome (option_copied result) (λ s. Some s.intake ≡ intakes_of self.now conn.0) }
+        ensures owner { IfSome (option_copied result) (λ s. s.owner ≡ owners_of self.now conn.0) }
+    {
+        match self.map.get_index(self.last) {
+            Some((number, slot)) if *number == conn.0 => Some(slot),
+            _ => None,
+        }
+    }
+
     /// The connection, where it is there.
     fn slot(&self, conn: Conn) -> Option<&Slot>
         ensures intake { option_map (λ s. s.intake) (option_copied result) ≡ intakes_of self.now conn.0 }
         ensures owner { owner_in (option_copied result) ≡ owners_of self.now conn.0 }
     {
-        match self.map.get_index(self.last) {
-            Some((number, slot)) if *number == conn.0 => Some(slot),
-            _ => self.map.get(&conn.0),
+        match self.slot_looked_at_first(conn) {
+            Some(slot) => Some(slot),
+            None => self.map.get(&conn.0),
         }
     }
 
@@ -177,11 +228,22 @@ impl Slots {
         self.map.clear();
     }
 
-    /// Keeps a piece that came on the connection, where it is there.
+    /// Keeps a piece that came on the connection, where it is there. Notes where that stands, to look at it first.
     pub fn feed(&mut self, conn: Conn, piece: &[u8]) -> Result<(), AllocError>
         ensures fed { OnOk result (intakes_of self.new ≡ changed conn.0 (fed_intake piece.now) (intakes_of self.old)) }
         ensures unchanged { OnErr result (intakes_of self.new ≡ intakes_of self.old) }
         // Nothing is kept of a connection that isn't there.
+        ensures memory { OnErr result (is_there conn.0 (intakes_of self.old) ≡ true) }
+        ensures owners { owners_of self.new ≡ owners_of self.old }
+    {
+        self.look_first_at(conn);
+        self.feed_found(conn, piece)
+    }
+
+    /// Does what [`feed`](Slots::feed) does, and notes nothing.
+    fn feed_found(&mut self, conn: Conn, piece: &[u8]) -> Result<(), AllocError>
+        ensures fed { OnOk result (intakes_of self.new ≡ changed conn.0 (fed_intake piece.now) (intakes_of self.old)) }
+        ensures unchanged { OnErr result (intakes_of self.new ≡ intakes_of self.old) }
         ensures memory { OnErr result (is_there conn.0 (intakes_of self.old) ≡ true) }
         ensures owners { owners_of self.new ≡ owners_of self.old }
     {
@@ -247,15 +309,6 @@ impl Slots {
         }
     }
 
-    /// True only where the connection is looked at first.
-    #[inline(always)]
-    fn is_looked_at_first(&self, conn: Conn) -> bool {
-        match self.map.get_index(self.last) {
-            Some((number, _)) => *number == conn.0,
-            None => false,
-        }
-    }
-
     /// Searches for the connection and notes where it stands, if it is there.
     #[inline(never)]
     fn search_and_look_first_at(&mut self, conn: Conn)
@@ -273,19 +326,45 @@ impl Slots {
         ensures intakes { intakes_of self.new ≡ intakes_of self.old }
         ensures owners { owners_of self.new ≡ owners_of self.old }
     {
-        if !self.is_looked_at_first(conn) {
-            self.search_and_look_first_at(conn);
+        match self.slot_looked_at_first(conn) {
+            Some(_) => {}
+            None => self.search_and_look_first_at(conn),
         }
     }
 
-    /// True only where the connection is looked at first and takes messages of at most `max` octets already.
+    /// Whose the connection is, and how many octets the whole message has with which the piece that came on it begins:
+    /// what [`owner`](Slots::owner) and [`whole_message_len`](Slots::whole_message_len) say, at one look. Notes where
+    /// the connection stands, if it is there, to look at it first. It never answers want of memory.
     #[inline(always)]
-    fn has_max_message_len(&self, conn: Conn, max: u32) -> bool
-        ensures { result ≡ true → (i : OneIntake) × (intakes_of self.now conn.0 ≡ Some i) × (i.max ≡ max) }
+    pub fn look_at_arrival(&mut self, conn: Conn, piece: &[u8]) -> Arrival
+        ensures owner { result.owner ≡ owners_of self.old conn.0 }
+        ensures whole { IfSome result.message_len (λ size. IsWholeAt (intakes_of self.old conn.0) piece.now size) }
+        ensures none { IfNone result.message_len (IfSome (intakes_of self.old conn.0) (λ i. IsNotWhole i piece.now)) }
+        ensures intakes { intakes_of self.new ≡ intakes_of self.old }
+        ensures owners { owners_of self.new ≡ owners_of self.old }
     {
-        match self.map.get_index(self.last) {
-            Some((number, slot)) if *number == conn.0 => slot.intake.max_message_len() == max,
-            _ => false,
+        match self.slot_looked_at_first(conn) {
+            Some(slot) => slot.arrival(piece),
+            None => self.search_and_look_at_arrival(conn, piece),
+        }
+    }
+
+    /// Does what [`look_at_arrival`](Slots::look_at_arrival) does, wherever the connection stands.
+    #[inline(never)]
+    fn search_and_look_at_arrival(&mut self, conn: Conn, piece: &[u8]) -> Arrival
+        ensures owner { result.owner ≡ owners_of self.old conn.0 }
+        ensures whole { IfSome result.message_len (λ size. IsWholeAt (intakes_of self.old conn.0) piece.now size) }
+        ensures none { IfNone result.message_len (IfSome (intakes_of self.old conn.0) (λ i. IsNotWhole i piece.now)) }
+        ensures intakes { intakes_of self.new ≡ intakes_of self.old }
+        ensures owners { owners_of self.new ≡ owners_of self.old }
+    {
+        match self.map.get_full(&conn.0) {
+            Some((index, _, slot)) => {
+                let arrival = slot.arrival(piece);
+                self.last = index;
+                arrival
+            }
+            None => nowhere(),
         }
     }
 
@@ -299,29 +378,13 @@ impl Slots {
         }
     }
 
-    /// Searches for the connection and notes where it stands. Where it is there it takes messages of at most `max`
-    /// octets.
-    #[inline(never)]
-    fn search_and_set_max_message_len(&mut self, conn: Conn, max: u32)
-        ensures raised { intakes_of self.new ≡ raised_at max (Some conn) (intakes_of self.old) }
-        ensures owners { owners_of self.new ≡ owners_of self.old }
-    {
-        self.search_and_look_first_at(conn);
-        if !self.has_max_message_len(conn, max) {
-            self.set_max_message_len(conn, max);
-        }
-    }
-
     /// The connection, if it is one and there, takes messages of at most `max` octets. It never answers want of memory.
-    #[inline(always)]
     pub fn set_max_message_len_if_there(&mut self, conn: Option<Conn>, max: u32)
         ensures raised { intakes_of self.new ≡ raised_at max conn (intakes_of self.old) }
         ensures owners { owners_of self.new ≡ owners_of self.old }
     {
         if let Some(conn) = conn {
-            if !self.has_max_message_len(conn, max) {
-                self.search_and_set_max_message_len(conn, max);
-            }
+            self.set_max_message_len(conn, max);
         }
     }
 
