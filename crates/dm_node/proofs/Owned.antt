@@ -177,7 +177,7 @@ owned_grown ps y n f is owned = record {
 
 -- What one change of owners comes to.
 
-on_is : (o : Option Conn) (c : Conn) → is_conn_number c.0 o ≡ is_on o c
+pub on_is : (o : Option Conn) (c : Conn) → is_conn_number c.0 o ≡ is_on o c
 on_is None c = refl
 on_is (Some d) c = refl
 

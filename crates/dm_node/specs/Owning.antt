@@ -8,6 +8,7 @@ use Rattle.dm_slots.specs.Intakes.{Intakes, raised_at}
 use Rattle.dm_slots.specs.Raised.{own_of, other_of}
 use Rattle.dm_node.specs.declared.owners.Holding.{Holding}
 use Rattle.dm_node.specs.Holding.{peer_at, holds_it, holds_at}
+use Rattle.dm_node.specs.NodeHeld.{TakesUpTo}
 use Rattle.dm_node.specs.NodeStates.{raised_for}
 
 -- the connections that a neighbour initiated and accepted, where there is one
@@ -46,8 +47,11 @@ abbrev pub IsReowned : List (Option Peer) → List (Option Peer) → Option ℕ 
 IsReowned ps qs None before = qs ≡ ps
 IsReowned ps qs (Some i) before = IsResettled ps qs i before
 
--- a neighbour, where there is one, is open on this connection, and held it and no other before: it holds what it held,
--- and just this connection takes longer messages
-pub record IsOpenAsBefore (before : Holding) (o : Option Peer) (conn : Conn) : Type 0 where
-  pub held : (c : Conn) → has before c ≡ holds_it c o
-  pub raised : (most : ℕ) (f : Intakes) → raised_for most o f ≡ raised_at most (Some conn) f
+-- a neighbour is open on the connection that it held before, and holds no other, and this takes messages of at most so
+-- many octets: nothing is left to raise
+pub record IsOpenAsBefore (most : ℕ) (f : Intakes) (before : Holding) (o : Option Peer) : Type 0 where
+  pub conn : Conn
+  pub only : before ≡ one_held conn
+  pub held : (c : Conn) → has (one_held conn) c ≡ holds_it c o
+  pub raised : (g : Intakes) → raised_for most o g ≡ raised_at most (Some conn) g
+  pub takes : TakesUpTo most (f conn.0)

@@ -58,9 +58,8 @@ impl Node {
     {
         feed_front_takes_whole_message_len();
         answer.clear();
-        self.look_first_at(conn);
-        let holder = self.holder(conn);
-        let Some(size) = self.intakes.whole_message_len(conn, piece) else {
+        let arrival = self.look_at_arrival(conn, piece);
+        let Some(size) = arrival.message_len else {
             return self.keep_front_and_tell(alloc, strangers, conn, piece, answer);
         };
         match tell_message(
@@ -69,7 +68,7 @@ impl Node {
             &mut self.neighbours,
             &mut self.known,
             strangers,
-            holder,
+            arrival.owner,
             conn,
             &piece[..size],
             answer,

@@ -6,7 +6,7 @@ ghost use Rattle.dm_node.specs.NodeEnding.{NodeCloseIsLast, NodeGoneIsSilent, No
 ghost use Rattle.dm_node.specs.NodeEnding.{NodeGoneKeepsNothing};
 ghost use Rattle.dm_node.specs.NodeFrames.{StreamsAreToldByFrames};
 ghost use Rattle.dm_node.specs.NodeHearing.{NodeHeardAlike, NodeHeardOut};
-ghost use Rattle.dm_node.specs.NodeHeld.{AllHeldAreThere};
+ghost use Rattle.dm_node.specs.NodeHeld.{AllHeldAreThere, AreRaised};
 ghost use Rattle.dm_node.specs.NodeLaws.{AreSoundNeighbours, EventLeavesOthers, NextLeavesOthers};
 ghost use Rattle.dm_node.specs.NodeLaws.{OneDoesAsItsPeer, OneTurnsAsItsPeer, ConcernedTurnsAsItsPeer};
 ghost use Rattle.dm_node.specs.NodeSeen.{node_state_of};
@@ -55,6 +55,15 @@ pub fn calls_are_steps()
 /// Each connection that a neighbour holds is there among those on which octets may come.
 pub fn each_held_connection_is_there(node: &Node)
     ensures { AllHeldAreThere (node_state_of node.now).peers (node_state_of node.now).intakes }
+{
+    let _count = node.neighbours.iter();
+}
+
+/// Each connection that an open neighbour holds takes messages up to the maximum behind the capabilities exchange
+/// (RFC 6733, 5.3).
+pub fn connections_of_open_neighbours_take_longer_messages(node: &Node)
+    ensures { AreRaised (node_state_of node.now).most
+        (node_state_of node.now).peers (node_state_of node.now).intakes }
 {
     let _count = node.neighbours.iter();
 }

@@ -57,7 +57,7 @@ impl Neighbours {
     ghost use Rattle.dm_node.specs.NodeKnown.{peer_state};
     ghost use Rattle.dm_node.specs.NodeStates.{concerned_in, raised_for};
     ghost use Rattle.dm_node.specs.NodeOrders.{close_if_any, closes_of_any};
-    ghost use Rattle.dm_node.specs.Owning.{has, one_held, initiated_of, accepted_of, IsOpenAsBefore};
+    ghost use Rattle.dm_node.specs.Owning.{has, one_held, initiated_of, accepted_of};
     ghost use Rattle.dm_slots.specs.Intakes.{Intakes, raised_at};
     ghost use Rattle.dm_node.specs.Strangers.{present};
     ghost use Rattle.dm_node.specs.declared.fault.AddFault.TheVariants.{Known, NoMemory};
@@ -211,15 +211,17 @@ impl Neighbours {
         }
     }
 
-    /// The connection, where the neighbour that an event concerned is open on it; else None. It never answers want of
+    /// True only where the neighbour that an event concerned is open on the connection. It never answers want of
     /// memory.
     #[inline(always)]
-    pub(crate) fn open_as_before(&self, who: Option<usize>, before: Conn) -> Option<Conn>
-        ensures { IfSome result (IsOpenAsBefore (one_held before) (concerned_in self.now who)) }
+    pub(crate) fn is_open_on(&self, who: Option<usize>, conn: Conn) -> bool
+        ensures held { result ≡ true → (c : Conn) → has (one_held conn) c ≡ holds_it c (concerned_in self.now who) }
+        ensures raised { result ≡ true → (most : ℕ) (f : Intakes)
+            → raised_for most (concerned_in self.now who) f ≡ raised_at most (Some conn) f }
     {
         match self.open_connection(who) {
-            Some(now) if now.0 == before.0 => Some(now),
-            _ => None,
+            Some(now) => now.0 == conn.0,
+            None => false,
         }
     }
 

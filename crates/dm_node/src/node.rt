@@ -1,7 +1,7 @@
 //! A node with its neighbours and connections.
 ghost use Rattle.dm_slots.specs.Held.{intakes_of, owners_of};
 ghost use Rattle.dm_node.specs.Owning.{AreOwned};
-ghost use Rattle.dm_node.specs.NodeHeld.{AllHeldAreThere};
+ghost use Rattle.dm_node.specs.NodeHeld.{AllHeldAreThere, AreRaised};
 ghost use Rattle.dm_node.specs.NodeKnown.{known_of, AreKnown};
 
 use crate::acquaintances::Acquaintances;
@@ -14,13 +14,14 @@ use crate::{Answer, NodeEvent, Strangers, Told};
 use dm_machine::{Conn, State};
 use dm_peer::Peer;
 use dm_slots::laws::connections_stay_until_closed;
-use dm_slots::{Acquaintance, Front, Slots};
+use dm_slots::{Acquaintance, Arrival, Front, Slots};
 use std::alloc::{AllocError, Global};
 use std::slice;
 
 /// A node of one neighbour or of many with its connections: what came on each and wasn't told yet, and whom each
 /// neighbour met.
-/// What holds of each is said by `laws::each_held_connection_is_there`.
+/// What holds of each is said by `laws::each_held_connection_is_there` and
+/// `laws::connections_of_open_neighbours_take_longer_messages`.
 #[derive(Drop)]
 pub struct Node {
     pub(crate) own: dm_base::Node,
@@ -30,6 +31,7 @@ pub struct Node {
     pub(crate) first_max: u32,
     pub(crate) most: u32,
     ghost held: { AllHeldAreThere neighbours (intakes_of intakes) },
+    ghost raised: { AreRaised most neighbours (intakes_of intakes) },
     ghost owned: { AreOwned (owners_of intakes) neighbours },
     ghost met: { AreKnown neighbours (known_of known) },
 }
@@ -44,9 +46,9 @@ impl Node {
     ghost use Rattle.dm_peer.specs.Spelled.{SendsSpelling};
     ghost use Rattle.dm_peer.specs.declared.peer.Peer.{Peer};
     ghost use Rattle.dm_node.specs.Holding.{peer_at, host_at, holds_at, is_open_at};
-    ghost use Rattle.dm_node.specs.Telling.{IsFree};
+    ghost use Rattle.dm_node.specs.Telling.{IsFree, IsHolder};
     ghost use Rattle.dm_slots.specs.Acquaintances.{known_after};
-    ghost use Rattle.dm_slots.specs.Hearing.{TakesFrontAt};
+    ghost use Rattle.dm_slots.specs.Hearing.{IsWholeAt, IsNotWhole, TakesFrontAt};
     ghost use Rattle.dm_slots.specs.Intakes.{Intake, IsFaulty, none_there, is_there};
     ghost use Rattle.dm_node.specs.NodeKnown.{acquaintance_at, MeetsAny, NodeKnownBehind, AwaitsExchangeAt};
     ghost use Rattle.dm_node.specs.NodeOrders.{node_opened, node_shut};
@@ -174,13 +176,19 @@ impl Node {
         self.intakes.shut(conn);
     }
 
+    /// Who holds the connection, and how many octets the whole message has with which the piece that came on it begins.
     /// Notes where the connection stands, to look at it first. It never answers want of memory.
     #[inline(always)]
-    pub(crate) fn look_first_at(&mut self, conn: Conn)
+    pub(crate) fn look_at_arrival(&mut self, conn: Conn, piece: &[u8]) -> Arrival
+        ensures holder { IsHolder (node_state_of self.new).peers conn result.owner }
+        ensures whole { IfSome result.message_len
+            (λ size. IsWholeAt ((node_state_of self.new).intakes conn.0) piece.now size) }
+        ensures none { IfNone result.message_len
+            (IfSome ((node_state_of self.new).intakes conn.0) (λ i. IsNotWhole i piece.now)) }
         ensures state { node_state_of self.new ≡ node_state_of self.old }
         ensures known { node_known_of self.new ≡ node_known_of self.old }
     {
-        self.intakes.look_first_at(conn);
+        self.intakes.look_at_arrival(conn, piece)
     }
 
     /// Keeps a piece that came on the connection, cut anyhow, to be told message by message by [`next`](Node::next).

@@ -1,7 +1,7 @@
 //! What is left behind an event: whose the connections are, what is closed, and which take longer messages.
-ghost use Rattle.std.specs.Prelude.{◌≡◌, true, List, Option, IfSome};
+ghost use Rattle.std.specs.Prelude.{◌≡◌, true, List, Option};
 ghost use Rattle.dm_machine.specs.declared.connection.Conn.{Conn};
-ghost use Rattle.dm_node.specs.NodeHeld.{AllHeldAreThere};
+ghost use Rattle.dm_node.specs.NodeHeld.{is_open_with, AllHeldAreThere, AreRaised, TakesUpTo};
 ghost use Rattle.dm_node.specs.NodeStates.{concerned_in, raised_for};
 ghost use Rattle.dm_node.specs.Owning.{AreOwned, IsOpenAsBefore, IsReowned};
 ghost use Rattle.dm_node.specs.Telling.{IsFree};
@@ -16,16 +16,17 @@ use dm_machine::Conn;
 use dm_slots::Slots;
 use dm_slots::laws::connections_stay_until_closed;
 
-/// What is settled behind an event that was told to a neighbour: what it held before, and the connection on which it is
-/// open where it held that and no other before too.
+/// What is settled behind an event that was told to a neighbour: what it held before, and whether it was open on that
+/// and is so still.
 #[derive(Clone, Copy)]
 pub(crate) struct ToSettle {
     pub(crate) before: Holding,
-    pub(crate) open_as_before: Option<Conn>,
+    pub(crate) is_open_as_before: bool,
 }
 
 /// Brings the connections up to date once an event was told: notes what its neighbour owns, forgets what the answer
-/// closes, and lets what an open neighbour holds take messages of at most `most` octets.
+/// closes, and lets what an open neighbour holds take messages of at most `most` octets. What is open as before takes
+/// them already.
 #[inline(always)]
 pub(crate) fn settle_connections(
     neighbours: &Neighbours,
@@ -36,30 +37,30 @@ pub(crate) fn settle_connections(
 )
     requires there { AllHeldAreThere neighbours.now (intakes_of slots.old) }
     requires free { (c : Conn) → actions_close answer.now.actions.items c.0 ≡ true → IsFree neighbours.now c }
-    requires stays { IfSome told.open_as_before
-        (IsOpenAsBefore told.before (concerned_in neighbours.now answer.now.neighbour)) }
+    requires stays { told.is_open_as_before ≡ true → IsOpenAsBefore most (intakes_of slots.old) told.before
+        (concerned_in neighbours.now answer.now.neighbour) }
     ensures settled { intakes_of slots.new ≡ raised_for most (concerned_in neighbours.now answer.now.neighbour)
         (left_by answer.now.actions.items (intakes_of slots.old)) }
     ensures held { AllHeldAreThere neighbours.now (intakes_of slots.new) }
     ensures owned { (ps : List (Option Peer)) → IsReowned ps neighbours.now answer.now.neighbour told.before
         → AreOwned (owners_of slots.old) ps → AreOwned (owners_of slots.new) neighbours.now }
+    ensures raised { (ps : List (Option Peer)) → IsReowned ps neighbours.now answer.now.neighbour told.before
+        → AreRaised most ps (intakes_of slots.old) → AreRaised most neighbours.now (intakes_of slots.new) }
 {
     connections_stay_until_closed();
     neighbours_are_apart_and_sound(neighbours);
-    match told.open_as_before {
-        Some(conn) => {
-            let actions = answer.actions.as_slice();
-            slots.shut_connections_closed_by(actions);
-            slots.set_max_message_len_if_there(Some(conn), most);
-        }
-        None => settle_changed_connections(
+    if told.is_open_as_before {
+        let actions = answer.actions.as_slice();
+        slots.shut_connections_closed_by(actions);
+    } else {
+        settle_changed_connections(
             neighbours,
             slots,
             told.before.initiated,
             told.before.accepted,
             most,
             answer,
-        ),
+        );
     }
 }
 
@@ -81,6 +82,8 @@ fn settle_changed_connections(
     ensures owned { (ps : List (Option Peer))
         → IsReowned ps neighbours.now answer.now.neighbour (record { initiated = initiated; accepted = accepted })
         → AreOwned (owners_of slots.old) ps → AreOwned (owners_of slots.new) neighbours.now }
+    ensures raised { (c : Conn) → is_open_with c (concerned_in neighbours.now answer.now.neighbour) ≡ true
+        → TakesUpTo most (intakes_of slots.new c.0) }
 {
     connections_stay_until_closed();
     neighbours_are_apart_and_sound(neighbours);

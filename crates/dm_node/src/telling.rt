@@ -1,8 +1,8 @@
 //! An event is told to the one neighbour of a node that it concerns; where it concerns none it is a stranger's.
-ghost use Rattle.std.specs.Prelude.{◌≡◌, ◌⊎◌, ℕ, true, List, [], All, Err, IfOk, IfErr, IfSome, OnOk, OnErr};
+ghost use Rattle.std.specs.Prelude.{◌≡◌, ◌⊎◌, ℕ, true, List, [], All, Err, IfOk, IfErr, OnOk, OnErr};
 ghost use Rattle.dm_machine.specs.declared.connection.Conn.{Conn};
 ghost use Rattle.dm_node.specs.Declining.{IsDeclinedHere, GoesByRule, GoesByAllRules, EventTakesMemory};
-ghost use Rattle.dm_node.specs.NodeHeld.{AllHeldAreThere};
+ghost use Rattle.dm_node.specs.NodeHeld.{AllHeldAreThere, AreRaised};
 ghost use Rattle.dm_node.specs.NodeKnown.{known_of, AreKnown, MeetsAny, IsCopied};
 ghost use Rattle.dm_node.specs.NodeStates.{TakesMemoryAt, concerned_in};
 ghost use Rattle.dm_node.specs.Owning.{AreOwned, IsOpenAsBefore, IsReowned};
@@ -134,8 +134,9 @@ pub(crate) fn tell_message<S: Strangers>(
         → AllHeldAreThere neighbours.new f }
     ensures before { IfOk result (λ told.
         IsReowned neighbours.old neighbours.new answer.new.neighbour told.before) }
-    ensures stays { IfOk result (λ told. IfSome told.open_as_before
-        (IsOpenAsBefore told.before (concerned_in neighbours.new answer.new.neighbour))) }
+    ensures stays { (most : ℕ) (f : AllIntakes) → AreRaised most neighbours.old f
+        → IfOk result (λ told. told.is_open_as_before ≡ true
+        → IsOpenAsBefore most f told.before (concerned_in neighbours.new answer.new.neighbour)) }
     ensures places { AreKnown neighbours.new (known_of known.new) }
     ensures met { OnOk result (MeetsAny (λ state q a. known_at conn state q octets.now a) answer.new.neighbour
         neighbours.old neighbours.new (known_of known.old) (known_of known.new)) }
@@ -153,7 +154,7 @@ pub(crate) fn tell_message<S: Strangers>(
         ) {
             Ok(()) => Ok(ToSettle {
                 before: holding_one(on),
-                open_as_before: neighbours.open_as_before(answer.neighbour, on),
+                is_open_as_before: neighbours.is_open_on(answer.neighbour, on),
             }),
             Err(_) => Err(AllocError),
         };
@@ -176,7 +177,7 @@ pub(crate) fn tell_message<S: Strangers>(
             );
             Ok(ToSettle {
                 before: before.held,
-                open_as_before: None,
+                is_open_as_before: false,
             })
         }
         Err(_) => Err(AllocError),
@@ -210,8 +211,9 @@ pub(crate) fn tell_event<S: Strangers>(
         → AllHeldAreThere neighbours.new f }
     ensures before { IfOk result (λ told.
         IsReowned neighbours.old neighbours.new answer.new.neighbour told.before) }
-    ensures stays { IfOk result (λ told. IfSome told.open_as_before
-        (IsOpenAsBefore told.before (concerned_in neighbours.new answer.new.neighbour))) }
+    ensures stays { (most : ℕ) (f : AllIntakes) → AreRaised most neighbours.old f
+        → IfOk result (λ told. told.is_open_as_before ≡ true
+        → IsOpenAsBefore most f told.before (concerned_in neighbours.new answer.new.neighbour)) }
     ensures places { AreKnown neighbours.new (known_of known.new) }
     ensures met { OnOk result (MeetsAny known_after answer.new.neighbour neighbours.old neighbours.new
         (known_of known.old) (known_of known.new)) }
@@ -238,7 +240,7 @@ pub(crate) fn tell_event<S: Strangers>(
         ) {
             Ok(()) => Ok(ToSettle {
                 before: holding_one(on),
-                open_as_before: neighbours.open_as_before(answer.neighbour, on),
+                is_open_as_before: neighbours.is_open_on(answer.neighbour, on),
             }),
             Err(fault) => Err(fault),
         };
@@ -249,7 +251,7 @@ pub(crate) fn tell_event<S: Strangers>(
             meet_if_opened_by_event(neighbours, known, answer.neighbour, before.state);
             Ok(ToSettle {
                 before: before.held,
-                open_as_before: None,
+                is_open_as_before: false,
             })
         }
         Err(fault) => Err(fault),

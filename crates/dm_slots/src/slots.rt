@@ -1,6 +1,6 @@
 //! The connections that are there, by number.
-ghost use Rattle.std.specs.Prelude.{◌≡◌, ◌∷◌, [], ℕ, true, false, List, Option, None, Some, IfSome, IfNone, IfOk, cond, take};
-ghost use Rattle.std.specs.Prelude.{OnOk, OnErr};
+ghost use Rattle.std.specs.Prelude.{◌≡◌, ◌∷◌, [], ℕ, true, false, List, Option, None, Some, IfSome, IfNone, cond, take};
+ghost use Rattle.std.specs.Prelude.{IfOk, OnOk, OnErr};
 ghost use Rattle.std.specs.Option.{option_copied, option_map};
 ghost use Rattle.dm_framer.specs.Frames.{BeginsWithNoFrame};
 ghost use Rattle.dm_slots.specs.Intakes.{none_there, is_there, opened, taken_down, changed, raised_at, left_by};

@@ -1,11 +1,13 @@
 -- What is left, and what is raised.
-use Rattle.std.proofs.Common.{sym, subst, ◌∙◌}
+use Rattle.std.proofs.Common.{sym, ap, subst, ◌∙◌}
+use Rattle.dm_machine.specs.Moves.{is_open}
 use Rattle.dm_slots.specs.Held.{intakes_of, owners_of}
 use Rattle.dm_slots.specs.Intakes.{left_by}
 use Rattle.dm_node.specs.NodeHeld.{AllHeldAreThere}
 use Rattle.dm_node.specs.NodeStates.{concerned_in}
 use Rattle.dm_node.proofs.NodeStaying.{held_left, concerned_there, raised_so}
 use Rattle.dm_node.proofs.Owning.{owned_left}
+use Rattle.dm_node.proofs.Raised.{raised_where_open}
 use Rattle.dm_node.proofs.settling.settle_changed_connections.Goals as goal
 
 pub update_owners-requires : goal.update_owners-requires
@@ -49,3 +51,11 @@ returns-clause-owned c = λ ps is owned.
     (owners_of c.set_max_message_len_if_open.new.self) c.requires.free
     (c.set_max_message_len_if_open.ensures.owners ∙ rw (c.as_slice.ensures.value) at c.shut_connections_closed_by.ensures.owners)
     (c.update_owners.ensures.owned ps qs c.neighbours_are_apart_and_sound.ensures.apart.apart c.snapshot-after.ensures.held is owned)
+
+pub returns-clause-raised : goal.returns-clause-raised
+returns-clause-raised c = λ d stands.
+    let after = c.snapshot-after.result in
+    let o = concerned_in c.args.neighbours.now c.args.answer.now.neighbour in
+    raised_where_open c.args.most after.held o c.is_open.result (intakes_of c.shut_connections_closed_by.new.self)
+    (intakes_of c.set_max_message_len_if_open.new.self) d c.set_max_message_len_if_open.ensures.raised
+    (c.is_open.ensures ∙ ap is_open c.snapshot-after.ensures.state) (c.snapshot-after.ensures.held d) stands

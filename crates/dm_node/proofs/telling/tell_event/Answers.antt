@@ -1,5 +1,5 @@
 -- Whom the event met, and when memory was wanted for it.
-use Rattle.std.proofs.Common.{refl, None, sym, subst}
+use Rattle.std.proofs.Common.{refl, false, sym, subst}
 use Rattle.dm_slots.specs.Acquaintances.{known_after}
 use Rattle.dm_node.specs.NodeKnown.{known_of, peer_state}
 use Rattle.dm_node.specs.NodeStates.{concerned_in}
@@ -7,6 +7,7 @@ use Rattle.dm_node.proofs.NodeKnowing.{state_looked, meets_after, known_told, op
 use Rattle.dm_node.proofs.Basics.{not_done, same_fault}
 use Rattle.dm_node.proofs.Ruling.{event_wants, done_goes, failed_goes}
 use Rattle.dm_node.specs.Owning.{one_held, IsReowned}
+use Rattle.dm_node.proofs.Raised.{open_as_before}
 use Rattle.dm_node.proofs.Reowned.{held_looked, reowned_told}
 use Rattle.dm_node.proofs.telling.tell_event.Goals as goal
 
@@ -25,20 +26,11 @@ returns-in-Ok-tell_neighbour_or_handle_stranger-clause-met g c =
 
 pub returns-in-Ok-tell_neighbour_or_handle_stranger-clause-places : goal.returns-in-Ok-tell_neighbour_or_handle_stranger-clause-places
 returns-in-Ok-tell_neighbour_or_handle_stranger-clause-places g c =
-    let policy = g.S.Strangers.policy c.args.strangers.now in
-    let ps = c.args.neighbours.now in
-    let before = peer_state (concerned_in ps c.in-Ok.who) in
-    let looked = state_looked policy ps c.args.event c.in-Ok.who before
-    c.neighbours_are_apart_and_sound.ensures.apart c.in-Ok.ensures.concerned c.in-Ok.ensures.nobody refl in
-    known_told known_after policy c.args.event c.args.own.now ps c.tell_neighbour_or_handle_stranger.new.neighbours
+    known_told known_after (g.S.Strangers.policy c.args.strangers.now) c.args.event c.args.own.now
+    c.args.neighbours.now c.tell_neighbour_or_handle_stranger.new.neighbours
     c.tell_neighbour_or_handle_stranger.new.answer.neighbour c.tell_neighbour_or_handle_stranger.new.answer.actions.items
     (known_of c.args.known.now) (known_of c.args.known.now) c.requires.calm c.requires.places
-    c.in-Ok-tell_neighbour_or_handle_stranger.ensures.told
-    (meets_after policy c.args.event c.args.own.now ps c.tell_neighbour_or_handle_stranger.new.neighbours
-    c.tell_neighbour_or_handle_stranger.new.answer.neighbour c.tell_neighbour_or_handle_stranger.new.answer.actions.items
-    (known_of c.args.known.now) (known_of c.args.known.now) before c.requires.calm looked c.requires.places
-    c.in-Ok-tell_neighbour_or_handle_stranger.ensures.told
-    (λ i q is there. open_stays_after before q i (known_of c.args.known.now) c.in-Some.ensures.state) (λ none. refl))
+    c.in-Ok-tell_neighbour_or_handle_stranger.ensures.told (returns-in-Ok-tell_neighbour_or_handle_stranger-clause-met g c)
 
 pub returns-in-Err-tell_neighbour_or_handle_stranger-clause-wants : goal.returns-in-Err-tell_neighbour_or_handle_stranger-clause-wants
 returns-in-Err-tell_neighbour_or_handle_stranger-clause-wants g c = λ is.
@@ -62,7 +54,7 @@ returns-in-Ok-tell_neighbour_or_handle_stranger-clause-before g c =
 pub returns-in-Ok-tell_neighbour_or_handle_stranger-clause-rules : goal.returns-in-Ok-tell_neighbour_or_handle_stranger-clause-rules
 returns-in-Ok-tell_neighbour_or_handle_stranger-clause-rules g c =
     done_goes (g.S.Strangers.policy c.args.strangers.now) c.args.neighbours.now c.args.event
-    (record { before = c.holding_one.result; open_as_before = c.open_as_before.result }) _ c.tell_neighbour_or_handle_stranger.result
+    (record { before = c.holding_one.result; is_open_as_before = c.is_open_on.result }) _ c.tell_neighbour_or_handle_stranger.result
     c.in-Ok-tell_neighbour_or_handle_stranger.is
     (λ f wrong. not_done c.in-Ok.who f c.concerned_neighbour.result c.in-Ok.is (c.concerned_neighbour.ensures.misdirected f wrong))
     c.tell_neighbour_or_handle_stranger.ensures.rules
@@ -88,18 +80,11 @@ returns-in-Ok-tell_neighbour_or_handle_stranger-2-clause-met g c =
 
 pub returns-in-Ok-tell_neighbour_or_handle_stranger-2-clause-places : goal.returns-in-Ok-tell_neighbour_or_handle_stranger-2-clause-places
 returns-in-Ok-tell_neighbour_or_handle_stranger-2-clause-places g c =
-    let policy = g.S.Strangers.policy c.args.strangers.now in
-    let ps = c.args.neighbours.now in
-    let looked = state_looked policy ps c.args.event c.in-Ok.who _
-    c.neighbours_are_apart_and_sound.ensures.apart c.in-Ok.ensures.concerned c.in-Ok.ensures.nobody
-    c.snapshot-before.ensures.state in
-    known_told known_after policy c.args.event c.args.own.now ps c.tell_neighbour_or_handle_stranger-2.new.neighbours
-    c.tell_neighbour_or_handle_stranger-2.new.answer.neighbour c.tell_neighbour_or_handle_stranger-2.new.answer.actions.items (known_of c.args.known.now)
-    (known_of c.meet_if_opened_by_event.new.known) c.requires.calm c.requires.places c.in-Ok-tell_neighbour_or_handle_stranger-2.ensures.told
-    (meets_after policy c.args.event c.args.own.now ps c.tell_neighbour_or_handle_stranger-2.new.neighbours
-    c.tell_neighbour_or_handle_stranger-2.new.answer.neighbour c.tell_neighbour_or_handle_stranger-2.new.answer.actions.items (known_of c.args.known.now)
-    (known_of c.meet_if_opened_by_event.new.known) c.snapshot-before.result.state c.requires.calm looked c.requires.places
-    c.in-Ok-tell_neighbour_or_handle_stranger-2.ensures.told c.meet_if_opened_by_event.ensures.met c.meet_if_opened_by_event.ensures.unmet)
+    known_told known_after (g.S.Strangers.policy c.args.strangers.now) c.args.event c.args.own.now
+    c.args.neighbours.now c.tell_neighbour_or_handle_stranger-2.new.neighbours
+    c.tell_neighbour_or_handle_stranger-2.new.answer.neighbour c.tell_neighbour_or_handle_stranger-2.new.answer.actions.items
+    (known_of c.args.known.now) (known_of c.meet_if_opened_by_event.new.known) c.requires.calm c.requires.places
+    c.in-Ok-tell_neighbour_or_handle_stranger-2.ensures.told (returns-in-Ok-tell_neighbour_or_handle_stranger-2-clause-met g c)
 
 pub returns-in-Err-tell_neighbour_or_handle_stranger-2-clause-wants : goal.returns-in-Err-tell_neighbour_or_handle_stranger-2-clause-wants
 returns-in-Err-tell_neighbour_or_handle_stranger-2-clause-wants g c = λ is.
@@ -121,7 +106,7 @@ returns-in-Ok-tell_neighbour_or_handle_stranger-2-clause-before g c =
 pub returns-in-Ok-tell_neighbour_or_handle_stranger-2-clause-rules : goal.returns-in-Ok-tell_neighbour_or_handle_stranger-2-clause-rules
 returns-in-Ok-tell_neighbour_or_handle_stranger-2-clause-rules g c =
     done_goes (g.S.Strangers.policy c.args.strangers.now) c.args.neighbours.now c.args.event
-    (record { before = c.snapshot-before.result.held; open_as_before = None }) _ c.tell_neighbour_or_handle_stranger-2.result c.in-Ok-tell_neighbour_or_handle_stranger-2.is
+    (record { before = c.snapshot-before.result.held; is_open_as_before = false }) _ c.tell_neighbour_or_handle_stranger-2.result c.in-Ok-tell_neighbour_or_handle_stranger-2.is
     (λ f wrong. not_done c.in-Ok.who f c.concerned_neighbour.result c.in-Ok.is (c.concerned_neighbour.ensures.misdirected f wrong))
     c.tell_neighbour_or_handle_stranger-2.ensures.rules
 
@@ -131,3 +116,9 @@ returns-in-Err-tell_neighbour_or_handle_stranger-2-clause-rules g c =
     c.in-Err-tell_neighbour_or_handle_stranger-2.fault c.tell_neighbour_or_handle_stranger-2.result c.in-Err-tell_neighbour_or_handle_stranger-2.is
     (λ f wrong. not_done c.in-Ok.who f c.concerned_neighbour.result c.in-Ok.is (c.concerned_neighbour.ensures.misdirected f wrong))
     c.tell_neighbour_or_handle_stranger-2.ensures.rules
+
+pub returns-in-Ok-tell_neighbour_or_handle_stranger-clause-stays : goal.returns-in-Ok-tell_neighbour_or_handle_stranger-clause-stays
+returns-in-Ok-tell_neighbour_or_handle_stranger-clause-stays g c = λ most f raised is.
+    open_as_before most f c.args.neighbours.now c.tell_neighbour_or_handle_stranger.new.neighbours c.in-Ok.who
+    c.tell_neighbour_or_handle_stranger.new.answer.neighbour c.in-Some.on c.holding_one.result c.holding_one.ensures
+    c.in-Some.ensures.state c.in-Some.ensures.held (c.is_open_on.ensures.held is) (c.is_open_on.ensures.raised is) raised

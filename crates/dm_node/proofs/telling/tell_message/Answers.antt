@@ -8,6 +8,7 @@ use Rattle.dm_node.specs.NodeStates.{concerned_in}
 use Rattle.dm_node.proofs.NodeKnowing.{state_looked, meets, known_moved, room_for, is_copied, open_meets}
 use Rattle.dm_node.specs.Owning.{one_held, IsReowned}
 use Rattle.dm_node.proofs.Owned.{whose_holder}
+use Rattle.dm_node.proofs.Raised.{open_as_before}
 use Rattle.dm_node.proofs.Reowned.{held_looked, reowned_moved}
 use Rattle.dm_node.proofs.telling.tell_message.Goals as goal
 
@@ -32,20 +33,11 @@ returns-in-Ok-clause-met g c =
 
 pub returns-in-Ok-clause-places : goal.returns-in-Ok-clause-places
 returns-in-Ok-clause-places g c =
-    let policy = g.S.Strangers.policy c.args.strangers.now in
-    let ps = c.args.neighbours.now in
-    let whose = whose_holder policy ps c.args.conn c.args.octets c.args.holder
-    c.neighbours_are_apart_and_sound.ensures.apart c.requires.holder c.in-Some.ensures.state in
-    let looked = state_looked policy ps (event.Arrived c.args.conn c.args.octets) c.args.holder _
-    c.neighbours_are_apart_and_sound.ensures.apart whose.concerned whose.nobody refl in
-    known_moved (λ state q a. known_at c.args.conn state q c.args.octets.now a) policy c.args.conn c.args.octets.now
-    c.args.own.now ps c.tell_neighbour_or_handle_stranger.new.neighbours c.tell_neighbour_or_handle_stranger.new.answer.neighbour
-    c.tell_neighbour_or_handle_stranger.new.answer.actions.items (known_of c.args.known.now) (known_of c.args.known.now) c.requires.places
-    c.in-Ok.ensures.told
-    (open_meets policy c.args.conn c.args.octets.now c.args.own.now ps c.tell_neighbour_or_handle_stranger.new.neighbours
-    c.tell_neighbour_or_handle_stranger.new.answer.neighbour c.tell_neighbour_or_handle_stranger.new.answer.actions.items (known_of c.args.known.now)
-    (peer_state (concerned_in ps c.args.holder)) c.requires.places looked c.in-Ok.ensures.told
-    c.in-Some.ensures.state)
+    known_moved (λ state q a. known_at c.args.conn state q c.args.octets.now a)
+    (g.S.Strangers.policy c.args.strangers.now) c.args.conn c.args.octets.now c.args.own.now c.args.neighbours.now
+    c.tell_neighbour_or_handle_stranger.new.neighbours c.tell_neighbour_or_handle_stranger.new.answer.neighbour
+    c.tell_neighbour_or_handle_stranger.new.answer.actions.items (known_of c.args.known.now) (known_of c.args.known.now)
+    c.requires.places c.in-Ok.ensures.told (returns-in-Ok-clause-met g c)
 
 pub returns-in-Err-clause-memory : goal.returns-in-Err-clause-memory
 returns-in-Err-clause-memory g c =
@@ -80,20 +72,12 @@ returns-in-Ok-tell_neighbour_or_handle_stranger-clause-met g c =
 
 pub returns-in-Ok-tell_neighbour_or_handle_stranger-clause-places : goal.returns-in-Ok-tell_neighbour_or_handle_stranger-clause-places
 returns-in-Ok-tell_neighbour_or_handle_stranger-clause-places g c =
-    let policy = g.S.Strangers.policy c.args.strangers.now in
-    let ps = c.args.neighbours.now in
-    let looked = state_looked policy ps (event.Arrived c.args.conn c.args.octets) c.neighbour_for_arrived_octets-who.result _
-    c.neighbours_are_apart_and_sound.ensures.apart c.neighbour_for_arrived_octets-who.ensures.found c.neighbour_for_arrived_octets-who.ensures.none
-    c.snapshot-before.ensures.state in
-    known_moved (λ state q a. known_at c.args.conn state q c.args.octets.now a) policy c.args.conn c.args.octets.now
-    c.args.own.now ps c.tell_neighbour_or_handle_stranger-2.new.neighbours c.tell_neighbour_or_handle_stranger-2.new.answer.neighbour
-    c.tell_neighbour_or_handle_stranger-2.new.answer.actions.items (known_of c.args.known.now) (known_of c.meet_or_set_waiting_cer.new.known) c.requires.places
-    c.in-Ok-tell_neighbour_or_handle_stranger.ensures.told
-    (meets policy c.args.conn c.args.octets.now c.args.own.now ps c.tell_neighbour_or_handle_stranger-2.new.neighbours
-    c.tell_neighbour_or_handle_stranger-2.new.answer.neighbour c.tell_neighbour_or_handle_stranger-2.new.answer.actions.items (known_of c.args.known.now)
-    (known_of c.copy_and_reserve_if_exchange.new.known) (known_of c.meet_or_set_waiting_cer.new.known) c.snapshot-before.result.state c.in-Ok-copy_and_reserve_if_exchange.exchange looked
-    c.in-Ok-copy_and_reserve_if_exchange.ensures.copied c.copy_and_reserve_if_exchange.ensures.same c.in-Ok-tell_neighbour_or_handle_stranger.ensures.told c.meet_or_set_waiting_cer.ensures.met
-    c.meet_or_set_waiting_cer.ensures.unmet)
+    known_moved (λ state q a. known_at c.args.conn state q c.args.octets.now a)
+    (g.S.Strangers.policy c.args.strangers.now) c.args.conn c.args.octets.now c.args.own.now c.args.neighbours.now
+    c.tell_neighbour_or_handle_stranger-2.new.neighbours c.tell_neighbour_or_handle_stranger-2.new.answer.neighbour
+    c.tell_neighbour_or_handle_stranger-2.new.answer.actions.items (known_of c.args.known.now)
+    (known_of c.meet_or_set_waiting_cer.new.known) c.requires.places
+    c.in-Ok-tell_neighbour_or_handle_stranger.ensures.told (returns-in-Ok-tell_neighbour_or_handle_stranger-clause-met g c)
 
 pub meet_or_set_waiting_cer-requires : goal.meet_or_set_waiting_cer-requires
 meet_or_set_waiting_cer-requires g c = record {
@@ -133,3 +117,9 @@ returns-in-Ok-tell_neighbour_or_handle_stranger-clause-before g c =
     reowned_moved policy c.args.conn c.args.octets.now c.args.own.now ps
     c.tell_neighbour_or_handle_stranger-2.new.neighbours c.tell_neighbour_or_handle_stranger-2.new.answer.neighbour
     c.tell_neighbour_or_handle_stranger-2.new.answer.actions.items c.snapshot-before.result.held looked c.in-Ok-tell_neighbour_or_handle_stranger.ensures.told
+
+pub returns-in-Ok-clause-stays : goal.returns-in-Ok-clause-stays
+returns-in-Ok-clause-stays g c = λ most f raised is.
+    open_as_before most f c.args.neighbours.now c.tell_neighbour_or_handle_stranger.new.neighbours c.args.holder
+    c.tell_neighbour_or_handle_stranger.new.answer.neighbour c.in-Some.on c.holding_one.result c.holding_one.ensures
+    c.in-Some.ensures.state c.in-Some.ensures.held (c.is_open_on.ensures.held is) (c.is_open_on.ensures.raised is) raised

@@ -5,7 +5,8 @@ use Rattle.dm_node.specs.NodeKnown.{known_of, with_nobody}
 use Rattle.dm_node.proofs.NodeEmptying.{held_added}
 use Rattle.dm_node.proofs.NodeKnowing.{known_more}
 use Rattle.dm_node.proofs.Owning.{owned_added}
-use Rattle.dm_slots.specs.Held.{owners_of}
+use Rattle.dm_node.proofs.Raised.{raised_added}
+use Rattle.dm_slots.specs.Held.{intakes_of, owners_of}
 use Rattle.dm_node.proofs.node.Node.add.Goals as goal
 
 pub invariant_of-self : goal.invariant_of-self
@@ -15,6 +16,7 @@ invariant_of-self c =
     let added = c.in-Ok-push_new_peer.ensures.added in
     record {
       held = λ i d held. c.args.self.now.held i d (held_added ps _ k added d i held);
+      raised = raised_added c.args.self.now.most ps _ k (intakes_of c.args.self.now.intakes) added c.args.self.now.raised;
       owned = owned_added c.push_new_peer.result ps _ k (owners_of c.args.self.now.intakes)
           c.push_new_peer.ensures.added c.push_new_peer.ensures.unchanged c.args.self.now.owned;
       met = ap (map is_some) (c.push_place.ensures ∙ ap with_nobody c.reserve_place.ensures.same)

@@ -31,10 +31,16 @@ pub settle_connections-requires-clause-there : goal.settle_connections-requires-
 settle_connections-requires-clause-there c =
     c.tell_event.ensures.held (intakes_of c.args.self.now.intakes) c.args.self.now.held c.requires.there
 
+pub settle_connections-requires-clause-stays : goal.settle_connections-requires-clause-stays
+settle_connections-requires-clause-stays c =
+    c.in-Ok.ensures.stays c.args.self.now.most (intakes_of c.args.self.now.intakes) c.args.self.now.raised
+
 pub invariant_of-self : goal.invariant_of-self
 invariant_of-self c =
     record {
       held = c.settle_connections.ensures.held;
+      raised = c.settle_connections.ensures.raised c.args.self.now.neighbours c.in-Ok.ensures.before
+          c.args.self.now.raised;
       owned = c.settle_connections.ensures.owned c.args.self.now.neighbours c.in-Ok.ensures.before
           c.args.self.now.owned;
       met = c.tell_event.ensures.places;
