@@ -1,6 +1,7 @@
 //! The connections that are there, by number.
 ghost use Rattle.std.specs.Prelude.{◌≡◌, ◌∷◌, [], ℕ, true, false, List, Option, None, Some, IfSome, IfNone, cond, take};
-ghost use Rattle.std.specs.Prelude.{IfOk, OnOk, OnErr};
+ghost use Rattle.std.specs.Prelude.{IfOk, OnOk, OnErr, nat_eq};
+ghost use Rattle.indexmap.specs.IndexMap.{get};
 ghost use Rattle.std.specs.Option.{option_copied, option_map};
 ghost use Rattle.dm_framer.specs.Frames.{BeginsWithNoFrame};
 ghost use Rattle.dm_slots.specs.Intakes.{none_there, is_there, opened, taken_down, changed, raised_at, left_by};
@@ -309,14 +310,14 @@ impl Slots {
         }
     }
 
-    /// Searches for the connection and notes where it stands, if it is there.
+    /// The connection, where it is there, and where it stands, by its hash.
     #[inline(never)]
-    fn search_and_look_first_at(&mut self, conn: Conn)
-        ensures intakes { intakes_of self.new ≡ intakes_of self.old }
-        ensures owners { owners_of self.new ≡ owners_of self.old }
+    fn search(&self, conn: Conn) -> Option<(usize, &Slot)>
+        ensures { option_map (λ p. p.1.now) result ≡ get nat_eq self.now.map conn.0 }
     {
-        if let Some((index, _, _)) = self.map.get_full(&conn.0) {
-            self.last = index;
+        match self.map.get_full(&conn.0) {
+            Some((index, _, slot)) => Some((index, slot)),
+            None => None,
         }
     }
 
@@ -328,7 +329,11 @@ impl Slots {
     {
         match self.slot_looked_at_first(conn) {
             Some(_) => {}
-            None => self.search_and_look_first_at(conn),
+            None => {
+                if let Some((index, _)) = self.search(conn) {
+                    self.last = index;
+                }
+            }
         }
     }
 
@@ -345,26 +350,14 @@ impl Slots {
     {
         match self.slot_looked_at_first(conn) {
             Some(slot) => slot.arrival(piece),
-            None => self.search_and_look_at_arrival(conn, piece),
-        }
-    }
-
-    /// Does what [`look_at_arrival`](Slots::look_at_arrival) does, wherever the connection stands.
-    #[inline(never)]
-    fn search_and_look_at_arrival(&mut self, conn: Conn, piece: &[u8]) -> Arrival
-        ensures owner { result.owner ≡ owners_of self.old conn.0 }
-        ensures whole { IfSome result.message_len (λ size. IsWholeAt (intakes_of self.old conn.0) piece.now size) }
-        ensures none { IfNone result.message_len (IfSome (intakes_of self.old conn.0) (λ i. IsNotWhole i piece.now)) }
-        ensures intakes { intakes_of self.new ≡ intakes_of self.old }
-        ensures owners { owners_of self.new ≡ owners_of self.old }
-    {
-        match self.map.get_full(&conn.0) {
-            Some((index, _, slot)) => {
-                let arrival = slot.arrival(piece);
-                self.last = index;
-                arrival
-            }
-            None => nowhere(),
+            None => match self.search(conn) {
+                Some((index, slot)) => {
+                    let arrival = slot.arrival(piece);
+                    self.last = index;
+                    arrival
+                }
+                None => nowhere(),
+            },
         }
     }
 
