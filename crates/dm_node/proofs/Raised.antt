@@ -2,24 +2,32 @@
 use Rattle.std.proofs.Common.{◌≡◌, ◌&&◌, ◌||◌, ℕ, Bool, true, false, true≢false, cond, nat_eq, Option, None, Some, List, ◌++◌, refl, sym, ap, ◌∙◌, subst, inl, inr}
 use Rattle.std.proofs.Math.ListN.{set}
 use Rattle.std.proofs.Math.Path.{fun_ext}
-use Rattle.std.proofs.lemmas.Bool.{cases_eq, eqb-true}
+use Rattle.std.proofs.lemmas.Bool.{cases_eq, eqb-true, false_from_ne_true}
 use Rattle.std.specs.Option.{option_map}
 use Rattle.dm_history.specs.History.{new_peer}
 use Rattle.dm_machine.specs.declared.connection.Conn.{Conn}
 use Rattle.dm_machine.specs.Moves.{is_open}
 use Rattle.dm_node.specs.Adding.{with_new}
 use Rattle.dm_node.specs.Emptying.{set_back}
-use Rattle.dm_node.specs.Holding.{peer_at, holds, holds_it}
-use Rattle.dm_node.specs.NodeHeld.{is_open_with, AllHeldAreThere, AreRaised, TakesUpTo}
+use Rattle.dm_node.specs.Holding.{peer_at, holds, holds_it, holds_at}
+use Rattle.dm_base.specs.declared.node.Node.{Node}
+use Rattle.dm_node.specs.NodeHeld.{is_open_with, AllHeldAreThere, AreKept, AreRaised, TakesUpTo}
 use Rattle.dm_node.specs.NodeKnown.{peer_state}
 use Rattle.dm_node.specs.NodeOrders.{left_by_peer}
 use Rattle.dm_node.specs.NodeStates.{concerned_in, raised_for}
 use Rattle.dm_node.specs.Owning.{has, one_held, IsOpenAsBefore, IsReowned}
 use Rattle.dm_node.specs.declared.owners.Holding.{Holding}
-use Rattle.dm_node.proofs.Basics.{two_truths}
+use Rattle.dm_node.specs.Policies.{Policy}
+use Rattle.dm_node.specs.Strangers.{NodeMoves, NodeIsTold}
+use Rattle.dm_node.specs.Telling.{conn_of, told_of, IsFree, IsHolder, IsStrangeCer, PeerIsTold}
+use Rattle.dm_node.specs.declared.events.NodeEvent.{NodeEvent}
+use Rattle.dm_node.proofs.Basics.{one_some, two_truths}
+use Rattle.dm_node.proofs.Closing.{CameOn, ClosesItsOwn}
+use Rattle.dm_node.proofs.NodeKnowing.{told_event}
 use Rattle.dm_node.proofs.NodeStaying.{raised_keeps}
 use Rattle.dm_node.proofs.Owned.{has_initiated, on_is}
 use Rattle.dm_node.proofs.Places.{grown_cases, set_cases}
+use Rattle.dm_peer.specs.Events.{PeerEvent, Arrived}
 use Rattle.dm_peer.specs.Places.{is_on}
 use Rattle.dm_peer.specs.declared.actions.Action.{Action}
 use Rattle.dm_peer.specs.declared.config.Config.{Config}
@@ -163,19 +171,18 @@ raised_already most c f takes = fun_ext (λ d. by d (nat_eq c.0 d) refl)
     by d true e = taken_already most (f d) (subst (λ n. TakesUpTo most (f n)) (eqb-true c.0 d e) takes)
     by d false e = refl
 
-pub left_already : (most : ℕ) (f : Intakes) (before : Holding) (o : Option Peer) (actions : List Action) →
-    IsOpenAsBefore most f before o → raised_for most o (left_by actions f) ≡ left_by actions f
-left_already most f before o actions stays =
-    stays.raised (left_by actions f)
-    ∙ raised_already most stays.conn (left_by actions f)
-    (takes_less most (actions_close actions stays.conn.0) (f stays.conn.0) stays.takes)
+-- where a neighbour is open as before nothing is left to settle
+pub nothing_left : (most : ℕ) (f : Intakes) (before : Holding) (o : Option Peer) (actions : List Action) →
+    IsOpenAsBefore most f before actions o → f ≡ raised_for most o (left_by actions f)
+nothing_left most f before o actions stays =
+    let left : left_by actions f ≡ f = fun_ext (λ d. ap (λ b. cond b None (f d)) (stays.unclosed (record { 0 = d }))) in
+    sym (ap (raised_for most o) left ∙ stays.raised f ∙ raised_already most stays.conn f stays.takes)
 
-pub takes_as_before : (most : ℕ) (f h : Intakes) (before : Holding) (o : Option Peer) (actions : List Action) (c : Conn) →
-    IsOpenAsBefore most f before o → h ≡ raised_for most o (left_by actions f) → is_open_with c o ≡ true →
-    TakesUpTo most (h c.0)
-takes_as_before most f h before o actions c stays settled stands =
-    subst (λ g. TakesUpTo most (g c.0)) (sym (settled ∙ stays.raised (left_by actions f)))
-    (raised_held most (one_held stays.conn) o (left_by actions f) c (stays.held c) stands)
+pub takes_as_before : (most : ℕ) (f : Intakes) (before : Holding) (o : Option Peer) (actions : List Action) (c : Conn) →
+    IsOpenAsBefore most f before actions o → is_open_with c o ≡ true → TakesUpTo most (f c.0)
+takes_as_before most f before o actions c stays stands =
+    subst (λ (g : Intakes). TakesUpTo most (g c.0)) (raised_already most stays.conn f stays.takes)
+    (raised_held most (one_held stays.conn) o f c (stays.held c) stands)
 
 -- and what others hold is left as it was, or goes
 pub raised_settled : (most : ℕ) (ps qs : List (Option Peer)) (who : Option ℕ) (before : Holding) (actions : List Action)
@@ -201,17 +208,83 @@ concerned_takes : (most : ℕ) (ps : List (Option Peer)) (f : Intakes) (who : Op
 concerned_takes most ps f None c raised stands = absurd (true≢false (sym stands))
 concerned_takes most ps f (Some i) c raised stands = raised i c stands
 
+same_conn : (d e : Conn) (octets s : List ℕ) → Arrived d octets ≡ Arrived e s → d ≡ e
+same_conn d e octets s is = one_some d e (ap conn_of is)
+
+-- what a neighbour closes that it held, and holds on to, or octets on what it holds on to: nothing
+module _ (own : ClosesItsOwn) (ps qs : List (Option Peer)) (actions : List Action) (on : Conn) (who : Option ℕ)
+    (kept : AreKept ps) (before : IsReowned ps qs who (one_held on))
+    (now : (c : Conn) → has (one_held on) c ≡ holds_it c (concerned_in qs who))
+    (free : (c : Conn) → actions_close actions c.0 ≡ true → IsFree qs c) where
+  -- what is held on to isn't free
+  kept_on : (c : Conn) → has (one_held on) c ≡ true → IsFree qs c → ⊥
+  kept_on c held none = by who now where
+    by : (o : Option ℕ) → ((d : Conn) → has (one_held on) d ≡ holds_it d (concerned_in qs o)) → ⊥
+    by None is = true≢false (sym held ∙ is c)
+    by (Some i) is = two_truths (has (one_held on) c) held (is c ∙ none i)
+
+  told_unclosed : (e : PeerEvent) (i : ℕ) (c : Conn) → who ≡ Some i → PeerIsTold ps qs i e actions →
+      ((d : Conn) → CameOn e d → has (one_held on) d ≡ true) → actions_close actions c.0 ≡ true → ⊥
+  told_unclosed e i c is told came closing =
+      let settled : IsReowned ps qs (Some i) (one_held on) = subst (λ o. IsReowned ps qs o (one_held on)) is before in
+      elim (own told.before told.after e actions c (kept i told.before told.was) told.acts closing) [
+        | inl held ↦ kept_on c (settled.held c ∙ ap (holds_it c) told.was ∙ held) (free c closing)
+        | inr arrived ↦ kept_on c (came c arrived) (free c closing)
+      ]
+
+  somebody : who ≡ None → ⊥
+  somebody none =
+      true≢false (sym (has_initiated (one_held on) on refl) ∙ now on ∙ ap (λ o. holds_it on (concerned_in qs o)) none)
+
+  -- at a message that came on a connection of the neighbour that holds it, and at an event that is no octets
+  pub message_unclosed : (policy : Policy) (d : Conn) (octets : List ℕ) (n : Node) (holder : Option ℕ) →
+      IsHolder ps d holder → ((c : Conn) → has (one_held on) c ≡ holds_it c (concerned_in ps holder)) →
+      NodeMoves policy d octets n ps who actions qs → (c : Conn) → actions_close actions c.0 ≡ false
+  message_unclosed policy d octets n holder is held moved c =
+      false_from_ne_true (actions_close actions c.0) (by who holder refl refl is held moved)
+    where
+      here : (k : ℕ) → holder ≡ Some k → IsHolder ps d (Some k) → (e : Conn) → CameOn (Arrived d octets) e →
+          has (one_held on) e ≡ true
+      here k same holds e (s, arrived) =
+          held e ∙ ap (λ o. holds_it e (concerned_in ps o)) same
+          ∙ ap (λ (x : Conn). holds_at ps x k) (sym (same_conn d e octets s arrived)) ∙ holds.found
+
+      by : (w h : Option ℕ) → who ≡ w → holder ≡ h → IsHolder ps d h →
+          ((e : Conn) → has (one_held on) e ≡ holds_it e (concerned_in ps holder)) →
+          NodeMoves policy d octets n ps w actions qs → actions_close actions c.0 ≡ true → ⊥
+      by None h none same holds was m closing = somebody none
+      by (Some i) None is same holds was m closing =
+          true≢false (sym (has_initiated (one_held on) on refl) ∙ was on ∙ ap (λ o. holds_it on (concerned_in ps o)) same)
+      by (Some i) (Some k) is same holds was (inl (addressed, told)) closing =
+          told_unclosed (Arrived d octets) i c is told (here k same holds) closing
+      by (Some i) (Some k) is same holds was (inr (config, permitted, joins)) closing =
+          permitted.unknown.nobody k (inl holds.found)
+
+  pub event_unclosed : (policy : Policy) (e : NodeEvent) (n : Node) → (IsStrangeCer e → ⊥) →
+      ((c : Conn) (octets : List ℕ) → told_of e ≡ Arrived c octets → ⊥) → NodeIsTold policy e n ps who actions qs →
+      (c : Conn) → actions_close actions c.0 ≡ false
+  event_unclosed policy e n calm plain told c =
+      false_from_ne_true (actions_close actions c.0) (by who refl told)
+    where
+      by : (w : Option ℕ) → who ≡ w → NodeIsTold policy e n ps w actions qs → actions_close actions c.0 ≡ true → ⊥
+      by None none m closing = somebody none
+      by (Some i) is m closing =
+          told_unclosed (told_of e) i c is (told_event policy e n ps qs i actions calm m).1
+          (λ d came. absurd (plain d came.0 came.1)) closing
+
 pub open_as_before : (most : ℕ) (f : Intakes) (ps qs : List (Option Peer)) (holder who : Option ℕ) (on : Conn)
     (before : Holding) → before ≡ one_held on → is_open (peer_state (concerned_in ps holder)) ≡ true →
     ((c : Conn) → has (one_held on) c ≡ holds_it c (concerned_in ps holder)) →
     ((c : Conn) → has (one_held on) c ≡ holds_it c (concerned_in qs who)) →
-    ((m : ℕ) (g : Intakes) → raised_for m (concerned_in qs who) g ≡ raised_at m (Some on) g) → AreRaised most ps f →
-    IsOpenAsBefore most f before (concerned_in qs who)
-open_as_before most f ps qs holder who on before is stands held now raises raised = record {
+    ((m : ℕ) (g : Intakes) → raised_for m (concerned_in qs who) g ≡ raised_at m (Some on) g) →
+    (actions : List Action) → ((c : Conn) → actions_close actions c.0 ≡ false) → AreRaised most ps f →
+    IsOpenAsBefore most f before actions (concerned_in qs who)
+open_as_before most f ps qs holder who on before is stands held now raises actions unclosed raised = record {
   conn = on;
   only = is;
   held = now;
   raised = raises most;
   takes = concerned_takes most ps f holder on raised
       (open_with on (concerned_in ps holder) stands (sym (held on) ∙ has_initiated (one_held on) on refl));
+  unclosed = unclosed;
 }

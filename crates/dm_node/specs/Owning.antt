@@ -1,10 +1,11 @@
 -- Whose each connection is: of the neighbour that holds it.
-use Rattle.std.specs.Prelude.{◌≡◌, ℕ, Bool, true, ◌||◌, Option, None, Some, List, if◌then◌else◌}
+use Rattle.std.specs.Prelude.{◌≡◌, ℕ, Bool, true, false, ◌||◌, Option, None, Some, List, if◌then◌else◌}
 use Rattle.dm_machine.specs.declared.connection.Conn.{Conn}
+use Rattle.dm_peer.specs.declared.actions.Action.{Action}
 use Rattle.dm_peer.specs.declared.peer.Peer.{Peer}
 use Rattle.dm_peer.specs.Places.{is_on}
 use Rattle.dm_slots.specs.Held.{Owners}
-use Rattle.dm_slots.specs.Intakes.{Intakes, raised_at}
+use Rattle.dm_slots.specs.Intakes.{Intakes, actions_close, raised_at}
 use Rattle.dm_slots.specs.Raised.{own_of, other_of}
 use Rattle.dm_node.specs.declared.owners.Holding.{Holding}
 use Rattle.dm_node.specs.Holding.{peer_at, holds_it, holds_at}
@@ -48,10 +49,12 @@ IsReowned ps qs None before = qs ≡ ps
 IsReowned ps qs (Some i) before = IsResettled ps qs i before
 
 -- a neighbour is open on the connection that it held before, and holds no other, and this takes messages of at most so
--- many octets: nothing is left to raise
-pub record IsOpenAsBefore (most : ℕ) (f : Intakes) (before : Holding) (o : Option Peer) : Type 0 where
+-- many octets; the actions close none: nothing is left to settle
+pub record IsOpenAsBefore (most : ℕ) (f : Intakes) (before : Holding) (actions : List Action) (o : Option Peer)
+    : Type 0 where
   pub conn : Conn
   pub only : before ≡ one_held conn
   pub held : (c : Conn) → has (one_held conn) c ≡ holds_it c o
   pub raised : (g : Intakes) → raised_for most o g ≡ raised_at most (Some conn) g
   pub takes : TakesUpTo most (f conn.0)
+  pub unclosed : (c : Conn) → actions_close actions c.0 ≡ false

@@ -1,7 +1,8 @@
 //! What a node is told.
-ghost use Rattle.std.specs.Prelude.{◌≡◌};
+ghost use Rattle.std.specs.Prelude.{◌≡◌, ℕ, false, List};
+ghost use Rattle.dm_machine.specs.declared.connection.Conn.{Conn as OneConn};
 ghost use Rattle.dm_node.specs.Telling.{told_of};
-ghost use Rattle.dm_peer.specs.Events.{event_told};
+ghost use Rattle.dm_peer.specs.Events.{Arrived, event_told};
 
 use dm_base::Cause;
 use dm_peer::{Conn, Event};
@@ -45,4 +46,12 @@ pub(crate) fn peer_event<'a>(event: NodeEvent<'a>) -> Event<'a>
         NodeEvent::Arrived(conn, octets) => Event::Arrived(conn, octets),
         NodeEvent::Gone(conn) => Event::Gone(conn),
     }
+}
+
+/// False only where the event is no octets that came.
+#[inline(always)]
+pub(crate) fn is_arrival(event: NodeEvent<'_>) -> bool
+    ensures { result ≡ false → (c : OneConn) (octets : List ℕ) → told_of event.entry ≡ Arrived c octets → ⊥ }
+{
+    matches!(event, NodeEvent::Arrived(_, _))
 }

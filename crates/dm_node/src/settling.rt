@@ -17,7 +17,7 @@ use dm_slots::Slots;
 use dm_slots::laws::connections_stay_until_closed;
 
 /// What is settled behind an event that was told to a neighbour: what it held before, and whether it was open on that
-/// and is so still.
+/// and is so still, so that nothing is left to settle.
 #[derive(Clone, Copy)]
 pub(crate) struct ToSettle {
     pub(crate) before: Holding,
@@ -25,8 +25,8 @@ pub(crate) struct ToSettle {
 }
 
 /// Brings the connections up to date once an event was told: notes what its neighbour owns, forgets what the answer
-/// closes, and lets what an open neighbour holds take messages of at most `most` octets. What is open as before takes
-/// them already.
+/// closes, and lets what an open neighbour holds take messages of at most `most` octets. Where the neighbour is open as
+/// before, all is up to date.
 #[inline(always)]
 pub(crate) fn settle_connections(
     neighbours: &Neighbours,
@@ -38,7 +38,7 @@ pub(crate) fn settle_connections(
     requires there { AllHeldAreThere neighbours.now (intakes_of slots.old) }
     requires free { (c : Conn) → actions_close answer.now.actions.items c.0 ≡ true → IsFree neighbours.now c }
     requires stays { told.is_open_as_before ≡ true → IsOpenAsBefore most (intakes_of slots.old) told.before
-        (concerned_in neighbours.now answer.now.neighbour) }
+        answer.now.actions.items (concerned_in neighbours.now answer.now.neighbour) }
     ensures settled { intakes_of slots.new ≡ raised_for most (concerned_in neighbours.now answer.now.neighbour)
         (left_by answer.now.actions.items (intakes_of slots.old)) }
     ensures held { AllHeldAreThere neighbours.now (intakes_of slots.new) }
@@ -50,18 +50,16 @@ pub(crate) fn settle_connections(
     connections_stay_until_closed();
     neighbours_are_apart_and_sound(neighbours);
     if told.is_open_as_before {
-        let actions = answer.actions.as_slice();
-        slots.shut_connections_closed_by(actions);
-    } else {
-        settle_changed_connections(
-            neighbours,
-            slots,
-            told.before.initiated,
-            told.before.accepted,
-            most,
-            answer,
-        );
+        return;
     }
+    settle_changed_connections(
+        neighbours,
+        slots,
+        told.before.initiated,
+        told.before.accepted,
+        most,
+        answer,
+    );
 }
 
 /// Does what [`settle_connections`] does, whatever the neighbour held, which is lent in parts, and holds.

@@ -1,11 +1,13 @@
 //! An event is told to the one neighbour of a node that it concerns; where it concerns none it is a stranger's.
-ghost use Rattle.std.specs.Prelude.{◌≡◌, ◌⊎◌, ℕ, true, List, [], All, Err, IfOk, IfErr, OnOk, OnErr};
+ghost use Rattle.std.specs.Prelude.{◌≡◌, ◌⊎◌, ℕ, true, List, [], All, None, Err, IfOk, IfErr, IfSome, OnOk, OnErr};
 ghost use Rattle.dm_machine.specs.declared.connection.Conn.{Conn};
 ghost use Rattle.dm_node.specs.Declining.{IsDeclinedHere, GoesByRule, GoesByAllRules, EventTakesMemory};
 ghost use Rattle.dm_node.specs.NodeHeld.{AllHeldAreThere, AreRaised};
-ghost use Rattle.dm_node.specs.NodeKnown.{known_of, AreKnown, MeetsAny, IsCopied};
+ghost use Rattle.dm_machine.specs.Moves.{is_open};
+ghost use Rattle.dm_node.specs.Holding.{holds_it};
+ghost use Rattle.dm_node.specs.NodeKnown.{known_of, peer_state, AreKnown, MeetsAny, IsCopied};
 ghost use Rattle.dm_node.specs.NodeStates.{TakesMemoryAt, concerned_in};
-ghost use Rattle.dm_node.specs.Owning.{AreOwned, IsOpenAsBefore, IsReowned};
+ghost use Rattle.dm_node.specs.Owning.{has, one_held, AreOwned, IsOpenAsBefore, IsReowned};
 ghost use Rattle.dm_node.specs.Strangers.{NodeMoves, NodeIsTold};
 ghost use Rattle.dm_node.specs.Telling.{IsFree, IsHolder, IsStrangeCer, IsWhose, IsRefusedHere, StartsFree, told_of};
 ghost use Rattle.dm_node.specs.declared.fault.OrderFault.TheVariants as faults;
@@ -19,6 +21,7 @@ ghost use Rattle.dm_slots.specs.Naming.{NamesThere};
 
 use crate::acquaintances::Acquaintances;
 use crate::concerned_neighbour::{concerned_neighbour, neighbour_for_arrived_octets};
+use crate::events::is_arrival;
 use crate::meeting::{
     copy_and_reserve_if_exchange, meet_if_opened_by_event, meet_or_set_waiting_cer,
 };
@@ -37,6 +40,26 @@ use dm_peer::laws::{
 };
 use dm_slots::Slots;
 use std::alloc::{AllocError, Global};
+
+/// The connection on which the neighbour of the number is open, where the event that concerns it is no octets: these may
+/// close another connection.
+#[inline(always)]
+fn open_connection_unless_arrival(
+    neighbours: &Neighbours,
+    who: Option<usize>,
+    event: NodeEvent<'_>,
+) -> Option<Conn>
+    ensures state { IfSome result (λ conn. is_open (peer_state (concerned_in neighbours.now who)) ≡ true) }
+    ensures held { IfSome result (λ conn. (c : Conn)
+        → has (one_held conn) c ≡ holds_it c (concerned_in neighbours.now who)) }
+    ensures arrival { (c : Conn) (octets : List ℕ) → told_of event.entry ≡ Arrived c octets → result ≡ None }
+{
+    if is_arrival(event) {
+        None
+    } else {
+        neighbours.open_connection(who)
+    }
+}
 
 /// What the node does at the event, which is of this neighbour, or of none, put into `answer`, whose actions are none
 /// before.
@@ -136,7 +159,8 @@ pub(crate) fn tell_message<S: Strangers>(
         IsReowned neighbours.old neighbours.new answer.new.neighbour told.before) }
     ensures stays { (most : ℕ) (f : AllIntakes) → AreRaised most neighbours.old f
         → IfOk result (λ told. told.is_open_as_before ≡ true
-        → IsOpenAsBefore most f told.before (concerned_in neighbours.new answer.new.neighbour)) }
+        → IsOpenAsBefore most f told.before answer.new.actions.items
+        (concerned_in neighbours.new answer.new.neighbour)) }
     ensures places { AreKnown neighbours.new (known_of known.new) }
     ensures met { OnOk result (MeetsAny (λ state q a. known_at conn state q octets.now a) answer.new.neighbour
         neighbours.old neighbours.new (known_of known.old) (known_of known.new)) }
@@ -146,6 +170,8 @@ pub(crate) fn tell_message<S: Strangers>(
     ensures unchanged { OnErr result (neighbours.new ≡ neighbours.old) }
     ensures same { OnErr result (known_of known.new ≡ known_of known.old) }
 {
+    done_events_are_steps_or_drops();
+    given_up_is_closed_unnamed_stays_unheld();
     neighbours_are_apart_and_sound(neighbours);
     let event = NodeEvent::Arrived(conn, octets);
     if let Some(on) = neighbours.open_connection(holder) {
@@ -213,7 +239,8 @@ pub(crate) fn tell_event<S: Strangers>(
         IsReowned neighbours.old neighbours.new answer.new.neighbour told.before) }
     ensures stays { (most : ℕ) (f : AllIntakes) → AreRaised most neighbours.old f
         → IfOk result (λ told. told.is_open_as_before ≡ true
-        → IsOpenAsBefore most f told.before (concerned_in neighbours.new answer.new.neighbour)) }
+        → IsOpenAsBefore most f told.before answer.new.actions.items
+        (concerned_in neighbours.new answer.new.neighbour)) }
     ensures places { AreKnown neighbours.new (known_of known.new) }
     ensures met { OnOk result (MeetsAny known_after answer.new.neighbour neighbours.old neighbours.new
         (known_of known.old) (known_of known.new)) }
@@ -228,13 +255,15 @@ pub(crate) fn tell_event<S: Strangers>(
     ensures unchanged { OnErr result (neighbours.new ≡ neighbours.old) }
     ensures same { OnErr result (known_of known.new ≡ known_of known.old) }
 {
+    done_events_are_steps_or_drops();
+    given_up_is_closed_unnamed_stays_unheld();
     event_refusals_go_by_rule();
     neighbours_are_apart_and_sound(neighbours);
     let who = match concerned_neighbour(neighbours, slots, strangers, event) {
         Ok(who) => who,
         Err(fault) => return Err(fault),
     };
-    if let Some(on) = neighbours.open_connection(who) {
+    if let Some(on) = open_connection_unless_arrival(neighbours, who, event) {
         return match tell_neighbour_or_handle_stranger(
             alloc, own, neighbours, strangers, who, event, answer,
         ) {

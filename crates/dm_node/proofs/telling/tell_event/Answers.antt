@@ -4,10 +4,11 @@ use Rattle.dm_slots.specs.Acquaintances.{known_after}
 use Rattle.dm_node.specs.NodeKnown.{known_of, peer_state}
 use Rattle.dm_node.specs.NodeStates.{concerned_in}
 use Rattle.dm_node.proofs.NodeKnowing.{state_looked, meets_after, known_told, open_stays_after}
-use Rattle.dm_node.proofs.Basics.{not_done, same_fault}
+use Rattle.dm_node.proofs.Basics.{no_some, not_done, same_fault}
 use Rattle.dm_node.proofs.Ruling.{event_wants, done_goes, failed_goes}
 use Rattle.dm_node.specs.Owning.{one_held, IsReowned}
-use Rattle.dm_node.proofs.Raised.{open_as_before}
+use Rattle.dm_node.proofs.Closing.{closes_its_own}
+use Rattle.dm_node.proofs.Raised.{event_unclosed, open_as_before}
 use Rattle.dm_node.proofs.Reowned.{held_looked, reowned_told}
 use Rattle.dm_node.proofs.telling.tell_event.Goals as goal
 
@@ -119,6 +120,18 @@ returns-in-Err-tell_neighbour_or_handle_stranger-2-clause-rules g c =
 
 pub returns-in-Ok-tell_neighbour_or_handle_stranger-clause-stays : goal.returns-in-Ok-tell_neighbour_or_handle_stranger-clause-stays
 returns-in-Ok-tell_neighbour_or_handle_stranger-clause-stays g c = λ most f raised is.
-    open_as_before most f c.args.neighbours.now c.tell_neighbour_or_handle_stranger.new.neighbours c.in-Ok.who
-    c.tell_neighbour_or_handle_stranger.new.answer.neighbour c.in-Some.on c.holding_one.result c.holding_one.ensures
-    c.in-Some.ensures.state c.in-Some.ensures.held (c.is_open_on.ensures.held is) (c.is_open_on.ensures.raised is) raised
+    let ps = c.args.neighbours.now in
+    let qs = c.tell_neighbour_or_handle_stranger.new.neighbours in
+    let answer = c.tell_neighbour_or_handle_stranger.new.answer in
+    let own = closes_its_own c.done_events_are_steps_or_drops.ensures
+    c.given_up_is_closed_unnamed_stays_unheld.ensures.closed in
+    let before = subst (IsReowned ps qs answer.neighbour) c.holding_one.ensures (returns-in-Ok-tell_neighbour_or_handle_stranger-clause-before g c) in
+    open_as_before most f ps qs c.in-Ok.who answer.neighbour c.in-Some.on c.holding_one.result c.holding_one.ensures
+    c.in-Some.ensures.state c.in-Some.ensures.held (c.is_open_on.ensures.held is) (c.is_open_on.ensures.raised is)
+    answer.actions.items
+    (event_unclosed own ps qs answer.actions.items c.in-Some.on answer.neighbour
+    c.neighbours_are_apart_and_sound.ensures.kept before (c.is_open_on.ensures.held is)
+    c.in-Ok-tell_neighbour_or_handle_stranger.ensures.closed (g.S.Strangers.policy c.args.strangers.now)
+    c.args.event c.args.own.now c.requires.calm
+    (λ d octets came. no_some _ (sym (c.in-Some.ensures.arrival d octets came)))
+    c.in-Ok-tell_neighbour_or_handle_stranger.ensures.told) raised

@@ -8,7 +8,8 @@ use Rattle.dm_node.specs.NodeStates.{concerned_in}
 use Rattle.dm_node.proofs.NodeKnowing.{state_looked, meets, known_moved, room_for, is_copied, open_meets}
 use Rattle.dm_node.specs.Owning.{one_held, IsReowned}
 use Rattle.dm_node.proofs.Owned.{whose_holder}
-use Rattle.dm_node.proofs.Raised.{open_as_before}
+use Rattle.dm_node.proofs.Closing.{closes_its_own}
+use Rattle.dm_node.proofs.Raised.{message_unclosed, open_as_before}
 use Rattle.dm_node.proofs.Reowned.{held_looked, reowned_moved}
 use Rattle.dm_node.proofs.telling.tell_message.Goals as goal
 
@@ -120,6 +121,16 @@ returns-in-Ok-tell_neighbour_or_handle_stranger-clause-before g c =
 
 pub returns-in-Ok-clause-stays : goal.returns-in-Ok-clause-stays
 returns-in-Ok-clause-stays g c = λ most f raised is.
-    open_as_before most f c.args.neighbours.now c.tell_neighbour_or_handle_stranger.new.neighbours c.args.holder
-    c.tell_neighbour_or_handle_stranger.new.answer.neighbour c.in-Some.on c.holding_one.result c.holding_one.ensures
-    c.in-Some.ensures.state c.in-Some.ensures.held (c.is_open_on.ensures.held is) (c.is_open_on.ensures.raised is) raised
+    let ps = c.args.neighbours.now in
+    let qs = c.tell_neighbour_or_handle_stranger.new.neighbours in
+    let answer = c.tell_neighbour_or_handle_stranger.new.answer in
+    let own = closes_its_own c.done_events_are_steps_or_drops.ensures
+    c.given_up_is_closed_unnamed_stays_unheld.ensures.closed in
+    let before = subst (IsReowned ps qs answer.neighbour) c.holding_one.ensures (returns-in-Ok-clause-before g c) in
+    open_as_before most f ps qs c.args.holder answer.neighbour c.in-Some.on c.holding_one.result c.holding_one.ensures
+    c.in-Some.ensures.state c.in-Some.ensures.held (c.is_open_on.ensures.held is) (c.is_open_on.ensures.raised is)
+    answer.actions.items
+    (message_unclosed own ps qs answer.actions.items c.in-Some.on answer.neighbour
+    c.neighbours_are_apart_and_sound.ensures.kept before (c.is_open_on.ensures.held is) c.in-Ok.ensures.closed
+    (g.S.Strangers.policy c.args.strangers.now) c.args.conn c.args.octets.now c.args.own.now c.args.holder
+    c.requires.holder c.in-Some.ensures.held c.in-Ok.ensures.told) raised
