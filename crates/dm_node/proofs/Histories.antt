@@ -51,7 +51,7 @@ set_back_here : (ps : List (Option Peer)) (i : ℕ) (p : Peer) → peer_at (with
 set_back_here ps i p at =
     elim (set_or_none ps i (option_map set_back (peer_at ps i))) [
       | inl is ↦ all_back_here p (peer_at ps i) (sym is ∙ at)
-      | inr none ↦ no_some p (sym none ∙ at)
+      | inr none ↦ no_some p (sym none.0 ∙ at)
     ]
 
 -- each of these neighbours has its own history

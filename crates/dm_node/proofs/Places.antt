@@ -49,21 +49,21 @@ kept_at [] y j h = cc
 kept_at (x ∷ xs) y zero h = refl
 kept_at (x ∷ xs) y (suc j) h = kept_at xs y j h
 
--- what is read at a changed place
-pub set_at : (ps : List (Option Peer)) (i : ℕ) (y : Option Peer) →
-    (peer_at (set ps i y) i ≡ y) ⊎ (peer_at (set ps i y) i ≡ peer_at ps i)
-set_at [] i y = inr refl
-set_at (x ∷ xs) zero y = inl refl
-set_at (x ∷ xs) (suc i) y = set_at xs i y
+-- what is read at a changed place: nobody where there is no such place
+pub set_or_none : (ps : List (Option Peer)) (i : ℕ) (y : Option Peer) →
+    (peer_at (set ps i y) i ≡ y) ⊎ ((peer_at (set ps i y) i ≡ None) × (peer_at ps i ≡ None))
+set_or_none [] i y = inr (refl, refl)
+set_or_none (x ∷ xs) zero y = inl refl
+set_or_none (x ∷ xs) (suc i) y = set_or_none xs i y
 
 -- so what holds of who is put in, and of who was there, holds of whoever is there
 pub set_cases : (Q : Option Peer → Type 0) (ps : List (Option Peer)) (i j : ℕ) (y : Option Peer) → (j ≡ i → Q y) →
     Q (peer_at ps j) → Q (peer_at (set ps i y) j)
 set_cases Q ps i j y here there =
     elim (cases_eq j i) [
-      | inl s ↦ elim (set_at ps i y) [
+      | inl s ↦ elim (set_or_none ps i y) [
         | inl put ↦ subst Q (sym (ap (peer_at (set ps i y)) s ∙ put)) (here s)
-        | inr was ↦ subst Q (sym (ap (peer_at (set ps i y)) s ∙ was ∙ ap (peer_at ps) (sym s))) there
+        | inr none ↦ subst Q (ap (peer_at ps) s ∙ none.1 ∙ sym (ap (peer_at (set ps i y)) s ∙ none.0)) there
       ]
       | inr un ↦ subst Q (sym (set_else ps i j y un)) there
     ]
@@ -73,13 +73,6 @@ pub hosts_set : (ps : List (Option Peer)) (i : ℕ) (y : Option Peer) → host_o
     host_at (set ps i y) j ≡ host_at ps j
 hosts_set ps i y same j =
     set_cases (λ o. host_of o ≡ host_at ps j) ps i j y (λ s. same ∙ sym (ap (host_at ps) s)) refl
-
--- nobody is read where there is no such place
-pub set_or_none : (ps : List (Option Peer)) (i : ℕ) (y : Option Peer) →
-    (peer_at (set ps i y) i ≡ y) ⊎ (peer_at (set ps i y) i ≡ None)
-set_or_none [] i y = inr refl
-set_or_none (x ∷ xs) zero y = inl refl
-set_or_none (x ∷ xs) (suc i) y = set_or_none xs i y
 
 -- the one behind the others
 pub grown_here : (ps : List (Option Peer)) (y : Option Peer) → peer_at (ps ++ y ∷ []) (length ps) ≡ y

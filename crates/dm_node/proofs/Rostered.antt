@@ -53,7 +53,7 @@ host_set ps i y fewer j h =
 pub set_free : (ps : List (Option Peer)) (i : ℕ) (y : Option Peer) (c : Conn) → holds_it c y ≡ false →
     holds_at (set ps i y) c i ≡ false
 set_free ps i y c free =
-    elim (set_or_none ps i y) [ inl here ↦ ap (holds_it c) here ∙ free | inr none ↦ ap (holds_it c) none ]
+    elim (set_or_none ps i y) [ inl here ↦ ap (holds_it c) here ∙ free | inr none ↦ ap (holds_it c) none.0 ]
 
 pub none_free : (c : Conn) → holds_it c None ≡ false
 none_free c = refl
