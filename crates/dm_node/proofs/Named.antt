@@ -19,7 +19,7 @@ same_length [] = refl
 same_length (x ∷ xs) = ap suc (same_length xs)
 
 -- who has a host is there, and the host isn't too long
-pub there_of : (h : List ℕ) (o : Option Peer) → host_of o ≡ Some h → IsSome o
+there_of : (h : List ℕ) (o : Option Peer) → host_of o ≡ Some h → IsSome o
 there_of h None e = no_some _ e
 there_of h (Some p) e = refl
 
