@@ -1,5 +1,5 @@
 -- What the rules say of an event, whatever memory there is.
-use Rattle.std.proofs.Common.{◌≡◌, ◌⊎◌, inl, inr, ℕ, true, false, Bool, if◌then◌else◌, Option, None, Some, option_map, Result, Ok, Err, IfSome, IfErr, IsTrue, List, refl, sym, ap, ◌∙◌, subst}
+use Rattle.std.proofs.Common.{◌≡◌, ◌⊎◌, inl, inr, ℕ, true, Bool, if◌then◌else◌, Option, None, Some, option_map, Result, Ok, Err, IfSome, IfErr, List, refl, sym, ap, ◌∙◌, subst}
 use Rattle.std.specs.Prelude.{⊤}
 use Rattle.dm_machine.specs.declared.connection.Conn.{Conn}
 use Rattle.dm_machine.specs.declared.state_name.State.{State}
@@ -19,47 +19,41 @@ use Rattle.dm_node.specs.declared.fault.OrderFault.TheVariants as fault
 use Rattle.dm_peer.specs.declared.fault.PeerFault.{PeerFault}
 use Rattle.dm_peer.specs.declared.fault.PeerFault.TheVariants.{NoMemory, NotOpen, BadSubmit}
 use Rattle.dm_peer.specs.declared.peer.Peer.{Peer}
-use Rattle.dm_peer.specs.Acts.{Outcome, Moved, Refused, acts, wants_memory, can_submit, IsRefused}
+use Rattle.dm_peer.specs.Acts.{Outcome, Moved, Refused, acts, can_submit}
 use Rattle.dm_peer.specs.Events.{PeerEvent, Start, Stop, Submit}
 use Rattle.dm_peer.specs.Kept.{IsKept}
 use Rattle.dm_peer.specs.Refusing.{RefusesByRule, fault_at, refusal_of, start_refusal}
 use Rattle.dm_wire.specs.Whole.{message_in}
 use Rattle.dm_node.proofs.Concerned.{one_there}
-use Rattle.dm_node.proofs.Declined.{rule_of}
+use Rattle.dm_node.proofs.Declined.{rule_of, wanted}
 use Rattle.dm_node.proofs.Basics.{one_some, no_some, not_done, same_fault}
 
 -- no rule refuses for want of memory
-starts : (s : State) → start_refusal s ≡ Some NoMemory → ⊥
-starts state.Closed h = absurd (cc h)
-starts s h = absurd (cc h)
-
-opens : (is : Bool) → (if is then None else Some NotOpen) ≡ Some NoMemory → ⊥
-opens true h = absurd (cc h)
-opens false h = absurd (cc h)
-
 submits : (is can : Bool) → (if is then (if can then None else Some BadSubmit) else Some NotOpen) ≡ Some NoMemory → ⊥
 submits true true h = absurd (cc h)
 submits is can h = absurd (cc h)
 
 never_of_memory : (s : State) (e : PeerEvent) → refusal_of s e ≡ Some NoMemory → ⊥
-never_of_memory s (Start c) h = starts s h
-never_of_memory s (Stop cause) h = opens (is_open s) h
+never_of_memory state.Closed (Start c) h = absurd (cc h)
+never_of_memory s (Start c) h = absurd (cc h)
+never_of_memory s (Stop cause) h = submits (is_open s) true h
 never_of_memory s (Submit octets) h = submits (is_open s) (can_submit (message_in octets)) h
 never_of_memory s e h = absurd (cc h)
 
 -- where memory was wanted some is taken
-wanted : RefusesByRule → (p : Peer) (e : PeerEvent) → IsKept p → IsRefused (acts p e) NoMemory →
-    IsTrue (wants_memory (acts p e))
-wanted rule p e kept (inl wants) = wants.1
-wanted rule p e kept (inr is) =
-    absurd (never_of_memory p.standing.core.state e (sym (rule p e kept.settled.shaped) ∙ ap fault_at is))
-
 pub event_wants : RefusesByRule → (policy : Policy) (ps : List (Option Peer)) (e : NodeEvent) (f : OrderFault) →
     AreKept ps → (IsStrangeCer e → ⊥) → f ≡ fault.Peer NoMemory → IsRefusedHere policy ps e f →
     EventTakesMemory policy ps e
 event_wants rule policy ps e f kept calm is h =
     elim (subst (IsRefusedHere policy ps e) is h) [
-      | inl (i, at, by) ↦ (i, by.peer, at, by.at, wanted rule by.peer (told_of e) (kept i by.peer by.at) by.refused)
+      | inl (i, at, by) ↦ (
+        i,
+        by.peer,
+        at,
+        by.at,
+        wanted rule by.peer (told_of e) NoMemory
+            (never_of_memory by.peer.standing.core.state (told_of e)) (kept i by.peer by.at) by.refused,
+      )
       | inr strange ↦ absurd (calm strange.2)
     ]
 
