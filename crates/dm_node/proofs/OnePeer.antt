@@ -7,20 +7,21 @@ use Rattle.dm_node.specs.declared.events.NodeEvent.{NodeEvent}
 use Rattle.dm_node.specs.declared.events.NodeEvent.TheVariants as event
 use Rattle.dm_node.specs.Holding.{peer_at}
 use Rattle.dm_node.specs.Policies.{Policy, no_strangers, told_the_first}
-use Rattle.dm_node.specs.Strangers.{IsPermitted, NodeMoves, TellsConcerned}
+use Rattle.dm_node.specs.Strangers.{IsPermitted, NodeMoves, NodeIsTold}
 use Rattle.dm_node.specs.Telling.{Concerns, IsAddressed, IsCallOf, IsFree, PeerIsTold, told_of}
 use Rattle.dm_peer.specs.declared.actions.Action.{Action}
 use Rattle.dm_peer.specs.declared.config.Config.{Config}
 use Rattle.dm_peer.specs.declared.peer.Peer.{Peer}
 use Rattle.dm_peer.specs.Acts.{Moved, acts}
-use Rattle.dm_peer.specs.Events.{PeerEvent, Arrived}
+use Rattle.dm_machine.specs.Reading.{connect_event, end_event}
+use Rattle.dm_machine.specs.Table.{IRcvConnAck, IRcvConnNack}
+use Rattle.dm_peer.specs.Events.{PeerEvent, Ack, Nack, Gone, Arrived}
 use Rattle.dm_peer.specs.Holding.{holds}
 use Rattle.dm_peer.specs.Settled.{IsSettled}
 use Rattle.dm_node.specs.NodeLaws.{AreSoundNeighbours, DoesAsItsPeer, TurnsAsItsPeer, OneDoesAsItsPeer}
 use Rattle.dm_node.specs.NodeStates.{NodeState, NodeAnswer, NodeTellsOctets, NodeTellsAs, node_settled}
 use Rattle.dm_node.proofs.Basics.{one_some}
-use Rattle.dm_node.proofs.NodeTold.{by_event}
-use Rattle.dm_node.proofs.Unheld.{ack_rests, nack_rests, gone_rests}
+use Rattle.dm_node.proofs.Unheld.{rests, is_new}
 
 only_one : (qs : List (Option Peer)) (q : Peer) → length qs ≡ 1 → peer_at qs 0 ≡ Some q → qs ≡ Some q ∷ []
 only_one [] q count is = absurd (cc count)
@@ -65,9 +66,11 @@ tells_alone e p s t answer qs k alone is left = (
 rests_alone : (e : NodeEvent) (p : Peer) → IsSettled p →
     ((c : Conn) (octets : List ℕ) → told_of e ≡ Arrived c octets → ⊥) →
     ((i : ℕ) → Concerns no_strangers (Some p ∷ []) e i → ⊥) → acts p (told_of e) ≡ Moved [] p
-rests_alone (event.Ack c) p was none nobody = ack_rests p c was (false_from_ne_true (holds c p) (nobody 0))
-rests_alone (event.Nack c) p was none nobody = nack_rests p c was (false_from_ne_true (holds c p) (nobody 0))
-rests_alone (event.Gone c) p was none nobody = gone_rests p c was (false_from_ne_true (holds c p) (nobody 0))
+rests_alone (event.Ack c) p was none nobody = rests p (Ack c) was (ap (connect_event IRcvConnAck) (is_new p c (nobody 0)))
+rests_alone (event.Nack c) p was none nobody =
+    rests p (Nack c) was (ap (connect_event IRcvConnNack) (is_new p c (nobody 0)))
+rests_alone (event.Gone c) p was none nobody =
+    rests p (Gone c) was (ap (end_event p.standing.core.state) (is_new p c (nobody 0)))
 rests_alone (event.Arrived c octets) p was none nobody = absurd (none c octets.now refl)
 rests_alone e p was none nobody = absurd (nobody _ refl)
 
@@ -76,15 +79,16 @@ DoesOrRests e p s answer t =
     ((answer.neighbour ≡ Some 0) × DoesAsItsPeer (told_of e) p s answer.actions t)
     ⊎ ((answer.neighbour ≡ None) × (answer.actions ≡ []) × (t ≡ s) × (acts p (told_of e) ≡ Moved [] p))
 
-plain_alone : (e : NodeEvent) (p : Peer) (s t : NodeState) (answer : NodeAnswer) (qs : List (Option Peer)) →
+event_alone : (e : NodeEvent) (p : Peer) (s t : NodeState) (answer : NodeAnswer) (qs : List (Option Peer)) →
     AreSoundNeighbours s.peers → ((c : Conn) (octets : List ℕ) → told_of e ≡ Arrived c octets → ⊥) →
     s.peers ≡ Some p ∷ [] → (who : Option ℕ) → answer.neighbour ≡ who →
-    TellsConcerned no_strangers e s.peers who answer.actions qs →
+    NodeIsTold no_strangers e s.node s.peers who answer.actions qs →
     t ≡ node_settled answer.neighbour qs answer.actions s → DoesOrRests e p s answer t
-plain_alone e p s t answer qs sound none one (Some k) is m left =
+event_alone (event.Arrived c octets) p s t answer qs sound none one who is m left = absurd (none c octets.now refl)
+event_alone e p s t answer qs sound none one (Some k) is m left =
     let alone = told_alone (told_of e) p s.peers qs k answer.actions one m.1 in
     inl (is ∙ ap Some alone.first, tells_alone (told_of e) p s t answer qs k alone is left)
-plain_alone e p s t answer qs sound none one None is m left =
+event_alone e p s t answer qs sound none one None is m left =
     let was : IsSettled p = (sound.kept 0 p (ap (λ l. peer_at l 0) one)).settled in
     inr (
       is,
@@ -97,11 +101,7 @@ plain_alone e p s t answer qs sound none one None is m left =
 
 pub does_as_its_peer : OneDoesAsItsPeer
 does_as_its_peer e p s t answer sound none one tells =
-    elim (by_event no_strangers e s.node s.peers tells.peers answer.neighbour answer.actions tells.moved) [
-      | inl came ↦ absurd (none came.0 came.1 came.2)
-      | inr plain ↦
-          plain_alone e p s t answer tells.peers sound none one answer.neighbour refl plain.1 tells.left
-    ]
+    event_alone e p s t answer tells.peers sound none one answer.neighbour refl tells.moved tells.left
 
 -- what a stranger sends concerns the one neighbour, where that is the porter
 free_first : (p : Peer) (c : Conn) → holds c p ≡ false → IsFree (Some p ∷ []) c

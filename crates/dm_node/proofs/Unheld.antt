@@ -1,5 +1,6 @@
 -- An Ack, a Nack or an end of a connection that a peer doesn't hold is nothing to it.
 use Rattle.std.proofs.Common.{◌≡◌, ℕ, Bool, true, false, cond, ◌&&◌, ◌==◌, if◌then◌else◌, Option, None, Some, is_some, List, [], ◌∷◌, refl, sym, ap, ◌∙◌, subst}
+use Rattle.std.proofs.lemmas.Bool.{false_from_ne_true}
 use Rattle.dm_machine.specs.declared.connection.Conn.{Conn}
 use Rattle.dm_machine.specs.declared.inputs.Input.{Input}
 use Rattle.dm_machine.specs.declared.phase.Role.{Role}
@@ -10,13 +11,13 @@ use Rattle.dm_machine.specs.Connection.{hold_as, hold_in}
 use Rattle.dm_machine.specs.Moves.{is_open, machine_outcome, by_table, by_event, raises_win, then_won}
 use Rattle.dm_machine.specs.Moves as moves
 use Rattle.dm_machine.specs.Node.{Node}
-use Rattle.dm_machine.specs.Reading.{OnNew, place_as, place_of, conn_named, end_event, connect_event, event_of}
+use Rattle.dm_machine.specs.Reading.{OnNew, place_as, place_of, conn_named, event_of}
 use Rattle.dm_machine.specs.Rows.{rows, row_in}
-use Rattle.dm_machine.specs.Table.{IRcvConnAck, IRcvConnNack, NoEvent, Row}
-use Rattle.dm_peer.specs.Acts.{Moved, acts, input_of, outcome_of, standing_at, steps, turned}
+use Rattle.dm_machine.specs.Table.{NoEvent, Row}
+use Rattle.dm_peer.specs.Acts.{Moved, input_of, outcome_of, standing_at, steps, turned}
 use Rattle.dm_peer.specs.After.{dwa_left, standing_after}
 use Rattle.dm_peer.specs.Configs.{wins}
-use Rattle.dm_peer.specs.Events.{PeerEvent, Ack, Nack, Gone}
+use Rattle.dm_peer.specs.Events.{PeerEvent}
 use Rattle.dm_peer.specs.Holding.{is_held, holds}
 use Rattle.dm_peer.specs.Settled.{IsSettled}
 use Rattle.dm_peer.specs.declared.peer.Peer.{Peer}
@@ -98,7 +99,7 @@ turned_is : (n : Node) (i : Input) (w : Bool) → turned n i w ≡ machine_outco
 unfolding turned
 turned_is n i w = refl
 
-rests : (p : Peer) (e : PeerEvent) → IsSettled p → event_of p.standing.core (input_of e None) ≡ NoEvent →
+pub rests : (p : Peer) (e : PeerEvent) → IsSettled p → event_of p.standing.core (input_of e None) ≡ NoEvent →
     steps p e None ≡ Moved [] p
 rests p e was is =
     let n = p.standing.core in
@@ -106,17 +107,6 @@ rests p e was is =
     ap (outcome_of p e None) (turned_is n i (wins p.config) ∙ quiet n i (wins p.config) is)
     ∙ ap (λ s. Moved [] (standing_at p s)) (standing_stays p was)
 
-pub ack_rests : (p : Peer) (c : Conn) → IsSettled p → holds c p ≡ false → acts p (Ack c) ≡ Moved [] p
-ack_rests p c was free =
-    let n = p.standing.core in
-    rests p (Ack c) was (ap (connect_event IRcvConnAck) (new_place n.state n.held c free))
-
-pub nack_rests : (p : Peer) (c : Conn) → IsSettled p → holds c p ≡ false → acts p (Nack c) ≡ Moved [] p
-nack_rests p c was free =
-    let n = p.standing.core in
-    rests p (Nack c) was (ap (connect_event IRcvConnNack) (new_place n.state n.held c free))
-
-pub gone_rests : (p : Peer) (c : Conn) → IsSettled p → holds c p ≡ false → acts p (Gone c) ≡ Moved [] p
-gone_rests p c was free =
-    let n = p.standing.core in
-    rests p (Gone c) was (ap (end_event n.state) (new_place n.state n.held c free))
+-- the event's connection isn't held
+pub is_new : (p : Peer) (c : Conn) → (holds c p ≡ true → ⊥) → place_of p.standing.core.state p.standing.core.held c ≡ OnNew
+is_new p c un = new_place p.standing.core.state p.standing.core.held c (false_from_ne_true (holds c p) un)
