@@ -1,5 +1,5 @@
 -- What a peer closes: a connection that it held, or one on which octets came.
-use Rattle.std.proofs.Common.{◌≡◌, inl, inr, ℕ, Bool, true, false, not, ◌&&◌, ◌||◌, ◌==◌, ◌⊎◌, IsTrue, Option, List, [], ◌∷◌, map, refl, sym, ap, subst, ◌∙◌}
+use Rattle.std.proofs.Common.{◌≡◌, inl, inr, ℕ, Bool, true, false, true≢false, not, ◌&&◌, ◌||◌, ◌==◌, ◌⊎◌, IsTrue, Option, List, [], ◌∷◌, map, refl, sym, ap, subst, ◌∙◌}
 use Rattle.std.specs.Prelude.{⊤}
 use Rattle.std.specs.List.{list_any}
 use Rattle.std.proofs.lemmas.Bool.{and_parts, eqb-true}
@@ -124,9 +124,6 @@ closed_at closed p q e actions c shaped s closing =
       not_held (hold_of q.standing.core c) both.0,
     )
 
-none_closes : (c : Conn) (actions : List Action) → actions ≡ [] → actions_close actions c.0 ≡ true → false ≡ true
-none_closes c actions none closing = sym (ap (λ l. actions_close l c.0) none) ∙ closing
-
 -- so whatever else is known of a peer than that its state machine's node has its form
 pub closes_shaped : EachEventIsOneStep → ClosesWhatItGivesUp → (p q : Peer) (e : PeerEvent) (actions : List Action)
     (c : Conn) → IsTrue (is_shaped p.standing.core) → acts p e ≡ Moved actions q → actions_close actions c.0 ≡ true →
@@ -134,7 +131,7 @@ pub closes_shaped : EachEventIsOneStep → ClosesWhatItGivesUp → (p q : Peer) 
 closes_shaped step closed p q e actions c shaped is closing =
     elim (subst (Follows p e) is (step p e)) [
       | inl s ↦ closed_at closed p q e actions c shaped s closing
-      | inr d ↦ absurd (cc (none_closes c actions d.silent closing))
+      | inr d ↦ absurd (true≢false (sym closing ∙ ap (λ l. actions_close l c.0) d.silent))
     ]
 
 -- what a peer closes it held, or octets came on it
