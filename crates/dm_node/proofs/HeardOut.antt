@@ -89,14 +89,6 @@ none_behind i piece message (x ∷ xs) (suc k) taken whole out frame is =
 -- what is kept of the message's connection, by what was kept before
 module _ (c : Conn) (piece : List ℕ) (size : ℕ) (s : NodeState) (out : NodeIsOut c s)
     (taken : TakesFrontAt (s.intakes c.0) piece size) where
-  rest_is_none : (j i : Intake) (message rest : List ℕ) → s.intakes c.0 ≡ Some j → j.is_broken ≡ false →
-      i ≡ longer (take size piece) j → IsFirst i message rest → rest ≡ []
-  rest_is_none j i message rest there whole is first =
-      let one : TakesFront j piece size = subst (λ o. TakesFrontAt o piece size) there taken in
-      let told : IsToldOut j = subst (λ o. IfSome o IsToldOut) there out in
-      let moved : IsFirst (longer (take size piece) j) message rest = subst (λ v. IsFirst v message rest) is first in
-      none_behind j piece message rest size one whole (told whole) moved.frame moved.octets
-
   rest_told : (i : Intake) (message rest : List ℕ) → (node_fed c (take size piece) s).intakes c.0 ≡ Some i →
       IsFirst i message rest → rest ≡ []
   rest_told i message rest there first =
@@ -106,8 +98,12 @@ module _ (c : Conn) (piece : List ℕ) (size : ℕ) (s : NodeState) (out : NodeI
       let j = before.0 in
       let same : Some (fed_intake (take size piece) j) ≡ Some i =
       ap (option_map (fed_intake (take size piece))) (sym before.1) ∙ here in
-      rest_is_none j i message rest before.1 before.2
-      (sym (one_some (fed_intake (take size piece) j) i same) ∙ fed_whole (take size piece) j before.2) first
+      let one : TakesFront j piece size = subst (λ o. TakesFrontAt o piece size) before.1 taken in
+      let told : IsToldOut j = subst (λ o. IfSome o IsToldOut) before.1 out in
+      let moved : IsFirst (longer (take size piece) j) message rest =
+      subst (λ v. IsFirst v message rest)
+      (sym (one_some (fed_intake (take size piece) j) i same) ∙ fed_whole (take size piece) j before.2) first in
+      none_behind j piece message rest size one before.2 (told before.2) moved.frame moved.octets
 
   told_as : (policy : Policy) (arrived : Option Conn) (answer : NodeAnswer) (t : NodeState) →
       NodeTellsAs policy arrived c (node_fed c (take size piece) s) answer t → NodeIsOut c t

@@ -13,7 +13,7 @@ use Rattle.dm_peer.specs.declared.peer.Peer.{Peer}
 use Rattle.dm_slots.specs.Intakes.{Intake, Intakes, is_conn_number, with_intake, changed, fed_intake, broken_intake, with_max, actions_close, left_by, raised_at}
 use Rattle.dm_slots.specs.Raised.{own_of, other_of}
 use Rattle.dm_node.specs.NodeStreams.{NodeTellsAlong, NodeCutsAlike}
-use Rattle.dm_node.specs.NodeStates.{NodeState, NodeTurn, NodeAnswer, NodeTellsMessage, NodeTellsFault, NodeTellsAs, concerned_in, raised_for, node_fed, node_settled, with_node_intakes}
+use Rattle.dm_node.specs.NodeStates.{NodeState, NodeTurn, NodeAnswer, NodeTellsMessage, NodeTellsAs, concerned_in, raised_for, node_fed, node_settled, with_node_intakes}
 use Rattle.dm_node.proofs.NodeStaying.{node_at}
 
 -- what came and wasn't broken off
@@ -98,21 +98,19 @@ fed_and_left : (k : ℕ) (more : List ℕ) (i j : Intake) (actions : List Action
 fed_and_left k more i j actions f is =
     fun_ext (λ d. fed_and_left_at more i j (nat_eq k d) (actions_close actions d) (f d) is)
 
-fed_behind : (k : ℕ) (more : List ℕ) (m : ℕ) (own other : Option Conn) (b : Bool) (f g : Intakes) →
-    changed k (fed_intake more) f ≡ g →
-    changed k (fed_intake more) (cond b (raised_at m other (raised_at m own f)) f)
-    ≡ cond b (raised_at m other (raised_at m own g)) g
-fed_behind k more m own other true f g is =
-    fed_and_raised k more m other (raised_at m own f)
-    ∙ ap (raised_at m other) (fed_and_raised k more m own f ∙ ap (raised_at m own) is)
-fed_behind k more m own other false f g is = is
-
 -- whoever it concerned
-fed_behind_any : (k : ℕ) (more : List ℕ) (m : ℕ) (p : Option Peer) (f g : Intakes) →
-    changed k (fed_intake more) f ≡ g → changed k (fed_intake more) (raised_for m p f) ≡ raised_for m p g
-fed_behind_any k more m None f g is = is
-fed_behind_any k more m (Some p) f g is =
-    fed_behind k more m (own_of p) (other_of p) (is_open p.standing.core.state) f g is
+fed_behind : (k : ℕ) (more : List ℕ) (m : ℕ) (p : Option Peer) (f g : Intakes) → changed k (fed_intake more) f ≡ g →
+    changed k (fed_intake more) (raised_for m p f) ≡ raised_for m p g
+fed_behind k more m None f g is = is
+fed_behind k more m (Some p) f g is = by (is_open p.standing.core.state)
+  where
+    by : (b : Bool) →
+        changed k (fed_intake more) (cond b (raised_at m (other_of p) (raised_at m (own_of p) f)) f)
+        ≡ cond b (raised_at m (other_of p) (raised_at m (own_of p) g)) g
+    by true =
+        fed_and_raised k more m (other_of p) (raised_at m (own_of p) f)
+        ∙ ap (raised_at m (other_of p)) (fed_and_raised k more m (own_of p) f ∙ ap (raised_at m (own_of p)) is)
+    by false = is
 
 -- a piece that comes behind a turn might have come before it
 pub fed_settled : (c : Conn) (more : List ℕ) (i j : Intake) (who : Option ℕ) (qs : List (Option Peer))
@@ -122,7 +120,7 @@ pub fed_settled : (c : Conn) (more : List ℕ) (i j : Intake) (who : Option ℕ)
     (with_node_intakes (with_intake c.0 (Some j) (node_fed c more s).intakes) (node_fed c more s))
 fed_settled c more i j who qs actions s is =
     ap (node_at s qs)
-    (fed_behind_any c.0 more s.most (concerned_in qs who) _ _ (fed_and_left c.0 more i j actions s.intakes is))
+    (fed_behind c.0 more s.most (concerned_in qs who) _ _ (fed_and_left c.0 more i j actions s.intakes is))
 
 -- the intake with a piece more
 abbrev pub longer : List ℕ → Intake → Intake
@@ -137,68 +135,64 @@ there_fed c more s i there e =
     ap (λ b. cond b (option_map (fed_intake more) (s.intakes c.0)) (s.intakes c.0)) (eq-eqb c.0 c.0 refl)
     ∙ ap (option_map (fed_intake more)) there ∙ ap (λ v. Some v) (fed_whole more i e)
 
-message_fed : (policy : Policy) (c : Conn) (more : List ℕ) (s t : NodeState) (answer : NodeAnswer) →
-    NodeTellsMessage policy c s answer t → NodeTellsMessage policy c (node_fed c more s) answer (node_fed c more t)
-message_fed policy c more s t answer h =
-    let i = h.intake in
-    let rest : Intake = record { octets = h.rest; max = i.max; is_broken = i.is_broken } in
-    record {
-      intake = longer more i;
-      message = h.message;
-      rest = h.rest ++ more;
-      there = there_fed c more s i h.there h.first.whole;
-      first = record {
-        whole = h.first.whole;
-        frame = h.first.frame;
-        octets = ap (λ l. l ++ more) h.first.octets ∙ append_assoc h.message h.rest more;
-      };
-      told = record {
-        peers = h.told.peers;
-        moved = h.told.moved;
-        left = ap (node_fed c more) h.told.left
-            ∙ fed_settled c more rest (longer more rest) answer.neighbour h.told.peers answer.actions s
-            (fed_whole more rest h.first.whole);
-      };
-    }
+module _ (policy : Policy) (c : Conn) (more : List ℕ) where
+  message_fed : (s t : NodeState) (answer : NodeAnswer) → NodeTellsMessage policy c s answer t →
+      NodeTellsMessage policy c (node_fed c more s) answer (node_fed c more t)
+  message_fed s t answer h =
+      let i = h.intake in
+      let rest : Intake = record { octets = h.rest; max = i.max; is_broken = i.is_broken } in
+      record {
+        intake = longer more i;
+        message = h.message;
+        rest = h.rest ++ more;
+        there = there_fed c more s i h.there h.first.whole;
+        first = record {
+          whole = h.first.whole;
+          frame = h.first.frame;
+          octets = ap (λ l. l ++ more) h.first.octets ∙ append_assoc h.message h.rest more;
+        };
+        told = record {
+          peers = h.told.peers;
+          moved = h.told.moved;
+          left = ap (node_fed c more) h.told.left
+              ∙ fed_settled c more rest (longer more rest) answer.neighbour h.told.peers answer.actions s
+              (fed_whole more rest h.first.whole);
+        };
+      }
 
-fault_fed : FaultStands → (policy : Policy) (c : Conn) (more : List ℕ) (s t : NodeState) (answer : NodeAnswer) →
-    NodeTellsFault policy c s answer t → NodeTellsFault policy c (node_fed c more s) answer (node_fed c more t)
-fault_fed stands policy c more s t answer h =
-    let i = h.intake in
-    record {
-      intake = longer more i;
-      there = there_fed c more s i h.there h.faulty.whole;
-      faulty = record {
-        whole = h.faulty.whole;
-        fault = (h.faulty.fault.0, stands i.max i.octets more h.faulty.fault.0 h.faulty.fault.1);
-      };
-      told = record {
-        peers = h.told.peers;
-        moved = h.told.moved;
-        left = ap (node_fed c more) h.told.left
-            ∙ fed_settled c more (broken_intake i) (broken_intake i) answer.neighbour h.told.peers answer.actions s
-            refl;
-      };
-    }
+  pub next_fed : FaultStands → (arrived : Option Conn) (s t : NodeState) (answer : NodeAnswer) →
+      NodeTellsAs policy arrived c s answer t →
+      NodeTellsAs policy arrived c (node_fed c more s) answer (node_fed c more t)
+  next_fed stands None s t answer h =
+      let i = h.intake in
+      record {
+        intake = longer more i;
+        there = there_fed c more s i h.there h.faulty.whole;
+        faulty = record {
+          whole = h.faulty.whole;
+          fault = (h.faulty.fault.0, stands i.max i.octets more h.faulty.fault.0 h.faulty.fault.1);
+        };
+        told = record {
+          peers = h.told.peers;
+          moved = h.told.moved;
+          left = ap (node_fed c more) h.told.left
+              ∙ fed_settled c more (broken_intake i) (broken_intake i) answer.neighbour h.told.peers answer.actions s
+              refl;
+        };
+      }
+  next_fed stands (Some d) s t answer h = (h.0, message_fed s t answer h.1)
 
-pub next_fed : FaultStands → (policy : Policy) (arrived : Option Conn) (c : Conn) (more : List ℕ) (s t : NodeState)
-    (answer : NodeAnswer) → NodeTellsAs policy arrived c s answer t →
-    NodeTellsAs policy arrived c (node_fed c more s) answer (node_fed c more t)
-next_fed stands policy None c more s t answer h = fault_fed stands policy c more s t answer h
-next_fed stands policy (Some d) c more s t answer h = (h.0, message_fed policy c more s t answer h.1)
-
-along : FaultStands → (policy : Policy) (c : Conn) (more : List ℕ) (s m t : NodeState)
-    (first others : List NodeTurn) → NodeTellsAlong policy c s first m → NodeTellsAlong policy c (node_fed c more m) others t →
-    NodeTellsAlong policy c (node_fed c more s) (first ++ others) t
-along stands policy c more s m t [] others h k =
-    subst (λ v. NodeTellsAlong policy c (node_fed c more v) others t) (sym h) k
-along stands policy c more s m t (turn ∷ first) others h k = (
-  node_fed c more h.0,
-  next_fed stands policy turn.arrived c more s h.0 turn.answer h.1,
-  along stands policy c more h.0 m t first others h.2 k,
-)
+  along : FaultStands → (s m t : NodeState) (first others : List NodeTurn) → NodeTellsAlong policy c s first m →
+      NodeTellsAlong policy c (node_fed c more m) others t →
+      NodeTellsAlong policy c (node_fed c more s) (first ++ others) t
+  along stands s m t [] others h k = subst (λ v. NodeTellsAlong policy c (node_fed c more v) others t) (sym h) k
+  along stands s m t (turn ∷ first) others h k = (
+    node_fed c more h.0,
+    next_fed stands turn.arrived s h.0 turn.answer h.1,
+    along stands h.0 m t first others h.2 k,
+  )
 
 pub cuts_alike : FaultStands → NodeCutsAlike
 cuts_alike stands policy c piece more s m t first others h k =
     subst (λ v. NodeTellsAlong policy c v (first ++ others) t) (fed_twice c piece more s)
-    (along stands policy c more (node_fed c piece s) m t first others h k)
+    (along policy c more stands (node_fed c piece s) m t first others h k)

@@ -11,7 +11,7 @@ use Rattle.dm_slots.specs.Intakes.{Intakes, is_there, taken_down, fed_intake, wi
 use Rattle.dm_node.specs.declared.order.Order.{Order}
 use Rattle.dm_node.specs.declared.order.Order.TheVariants as order
 use Rattle.dm_node.specs.NodeEnding.{IsOnConn, NodeGoneKeepsNothing}
-use Rattle.dm_node.specs.NodeOrders.{NodeTellsOnce, NodeTellsNothing, NodeTellsIfThere, NodeTellsNack, NodeTellsEnd, NodeTakes, ShutsUnheld}
+use Rattle.dm_node.specs.NodeOrders.{NodeTellsOnce, NodeTellsNothing, NodeTellsIfThere, NodeTakes, ShutsUnheld}
 use Rattle.dm_node.specs.NodeStates.{NodeState, NodeAnswer, NodeTellsOctets, NodeTellsAs, concerned_in, with_node_intakes}
 use Rattle.dm_node.proofs.Basics.{no_some}
 use Rattle.dm_node.proofs.NodeStaying.{raised_keeps}
@@ -49,35 +49,25 @@ none_shut d c f h = by (nat_eq d c)
     by true = refl
     by false = h
 
-end_not_there : (c d : Conn) (e : NodeEvent) (s t : NodeState) (asks : Option NodeAnswer) → s.intakes c.0 ≡ None →
-    d ≡ c → NodeTellsEnd d e s asks t → (asks ≡ None) × (t.intakes c.0 ≡ None)
-end_not_there c d e s t asks none same h =
-    let nothing = not_there c d e s h.0 asks none same h.1 in (
-      nothing.0,
-      ap (λ (v : NodeState). v.intakes c.0) h.2
-          ∙ none_shut d.0 c.0 h.0.intakes (ap (λ (v : NodeState). v.intakes c.0) nothing.1 ∙ none),
-    )
-
 none_unheld : (c d : Conn) (s t : NodeState) → s.intakes c.0 ≡ None → ShutsUnheld d s t → t.intakes c.0 ≡ None
 none_unheld c d s t none (inl held) = ap (λ (v : NodeState). v.intakes c.0) held.2 ∙ none
 none_unheld c d s t none (inr free) =
     ap (λ (v : NodeState). v.intakes c.0) free.1 ∙ none_shut d.0 c.0 s.intakes none
-
-nack_not_there : (c d : Conn) (s t : NodeState) (asks : Option NodeAnswer) → s.intakes c.0 ≡ None → d ≡ c →
-    NodeTellsNack d s asks t → (asks ≡ None) × (t.intakes c.0 ≡ None)
-nack_not_there c d s t asks none same h =
-    let nothing = not_there c d (event.Nack d) s h.0 asks none same h.1 in (
-      nothing.0,
-      none_unheld c d h.0 t (ap (λ (v : NodeState). v.intakes c.0) nothing.1 ∙ none) h.2,
-    )
 
 pub gone_is_silent : (c : Conn) (o : Order) (s t : NodeState) (asks : Option NodeAnswer) →
     s.intakes c.0 ≡ None → IsOnConn c o → NodeTakes o s asks t → (asks ≡ None) × (t.intakes c.0 ≡ None)
 gone_is_silent c (order.Ack d) s t asks none same h =
     let nothing = not_there c d (event.Ack d) s t asks none same h in
     (nothing.0, ap (λ (v : NodeState). v.intakes c.0) nothing.1 ∙ none)
-gone_is_silent c (order.Nack d) s t asks none same h = nack_not_there c d s t asks none same h
-gone_is_silent c (order.Gone d) s t asks none same h = end_not_there c d (event.Gone d) s t asks none same h
+gone_is_silent c (order.Nack d) s t asks none same (m, h, shut) =
+    let nothing = not_there c d (event.Nack d) s m asks none same h in
+    (nothing.0, none_unheld c d m t (ap (λ (v : NodeState). v.intakes c.0) nothing.1 ∙ none) shut)
+gone_is_silent c (order.Gone d) s t asks none same (m, h, shut) =
+    let nothing = not_there c d (event.Gone d) s m asks none same h in (
+      nothing.0,
+      ap (λ (v : NodeState). v.intakes c.0) shut
+          ∙ none_shut d.0 c.0 m.intakes (ap (λ (v : NodeState). v.intakes c.0) nothing.1 ∙ none),
+    )
 gone_is_silent c o s t asks none same h = absurd same
 
 -- nothing is kept of a connection that isn't there

@@ -16,15 +16,12 @@ use Rattle.dm_slots.specs.Intakes.{Intake, IsFirst, IsToldOut, with_intake, fed_
 use Rattle.dm_slots.specs.Staying.{TakingBackUndoes}
 use Rattle.dm_node.specs.NodeHearing.{NodeHears, NodeHearsNothing, IsKeptFirst, NodeHeardAlike}
 use Rattle.dm_node.specs.NodeKnown.{MeetsBy, NodeMeetsMessage, AwaitsExchangeAt}
-use Rattle.dm_node.specs.NodeStates.{NodeState, NodeAnswer, NodeTellsMessage, NodeTellsNext, NodeIsOut, NodeNextTakesMemory, node_fed, node_unfed, node_settled, with_node_intakes}
+use Rattle.dm_node.specs.NodeStates.{NodeState, NodeAnswer, NodeTellsNext, NodeIsOut, NodeNextTakesMemory, node_fed, node_unfed, node_settled, with_node_intakes}
 use Rattle.dm_node.proofs.NodeCuts.{longer, fed_whole, there_fed, fed_twice, next_fed}
 
 -- an intake of which all is told
 abbrev emptied : Intake → Intake
 emptied i = record { octets = []; max = i.max; is_broken = i.is_broken }
-
-was_empty : (i : Intake) → i.octets ≡ [] → emptied i ≡ i
-was_empty i none = ap (λ l. record i { octets = l }) (sym none)
 
 -- where nothing was kept, a message that came and went leaves nothing
 came_and_went : (c : Conn) (message : List ℕ) (s : NodeState) (i : Intake) → s.intakes c.0 ≡ Some i →
@@ -35,7 +32,7 @@ came_and_went c message s i there none =
   where
     at : (d : ℕ) (b : Bool) → nat_eq c.0 d ≡ b →
         cond b (Some (emptied i)) (cond b (option_map (fed_intake message) (s.intakes d)) (s.intakes d)) ≡ s.intakes d
-    at d true e = ap (λ v. Some v) (was_empty i none) ∙ sym there ∙ ap s.intakes (eqb-true c.0 d e)
+    at d true e = ap (λ l. Some (record i { octets = l })) (sym none) ∙ sym there ∙ ap s.intakes (eqb-true c.0 d e)
     at d false e = refl
 
 first_alone : (i : Intake) (message rest piece : List ℕ) → IsWholeIn i piece message rest →
@@ -46,35 +43,29 @@ first_alone i message rest piece front = record {
   octets = ap (λ l. l ++ message) front.none_kept ∙ sym (append-nil message);
 }
 
-told_where_it_lies : (policy : Policy) (c : Conn) (message rest piece : List ℕ) (s t : NodeState)
-    (answer : NodeAnswer) (qs : List (Option Peer)) (i : Intake) → s.intakes c.0 ≡ Some i →
-    IsWholeIn i piece message rest → NodeMoves policy c message s.node s.peers answer.neighbour answer.actions qs →
-    t ≡ node_settled answer.neighbour qs answer.actions s → NodeTellsMessage policy c (node_fed c message s) answer t
-told_where_it_lies policy c message rest piece s t answer qs i there front moved left = record {
-  intake = longer message i;
-  message = message;
-  rest = [];
-  there = there_fed c message s i there front.whole;
-  first = first_alone i message rest piece front;
-  told = record {
-    peers = qs;
-    moved = moved;
-    left = left ∙ ap (node_settled answer.neighbour qs answer.actions)
-        (sym (came_and_went c message s i there front.none_kept));
-  };
-}
-
 -- what is heard of a piece that begins with a whole message
 pub heard_where_it_lies : (policy : Policy) (c : Conn) (piece : List ℕ) (s t : NodeState) (answer : NodeAnswer)
     (qs : List (Option Peer)) (size : ℕ) → IsWholeAt (s.intakes c.0) piece size →
     NodeMoves policy c (take size piece) s.node s.peers answer.neighbour answer.actions qs →
     t ≡ node_settled answer.neighbour qs answer.actions s →
     NodeHears policy c piece size s (record { arrived = Some c; answer = answer }) t
-heard_where_it_lies policy c piece s t answer qs size h moved left = (
-  refl,
-  told_where_it_lies policy c (take size piece) (drop size piece) piece s t answer qs h.intake h.there h.front moved
-      left,
-)
+heard_where_it_lies policy c piece s t answer qs size h moved left =
+    let message = take size piece in (
+      refl,
+      record {
+        intake = longer message h.intake;
+        message = message;
+        rest = [];
+        there = there_fed c message s h.intake h.there h.front.whole;
+        first = first_alone h.intake message (drop size piece) piece h.front;
+        told = record {
+          peers = qs;
+          moved = moved;
+          left = left ∙ ap (node_settled answer.neighbour qs answer.actions)
+              (sym (came_and_went c message s h.intake h.there h.front.none_kept));
+        };
+      },
+    )
 
 -- and whom it met
 pub met_where_it_lies : (c : Conn) (piece : List ℕ) (s t : NodeState) (answer : NodeAnswer) (size : ℕ)
@@ -182,4 +173,4 @@ heard_alike stands policy c piece size s t turn h =
     let whole : node_fed c rest (node_fed c (take size piece) s) ≡ node_fed c piece s =
     fed_twice c (take size piece) rest s ∙ ap (λ l. node_fed c l s) (take-append-drop size piece) in
     subst (λ v. NodeTellsNext policy c v turn (node_fed c rest t)) whole
-    (next_fed stands policy turn.arrived c rest (node_fed c (take size piece) s) t turn.answer h)
+    (next_fed policy c rest stands turn.arrived (node_fed c (take size piece) s) t turn.answer h)
