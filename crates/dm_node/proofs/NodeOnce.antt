@@ -45,24 +45,6 @@ wholly ps sound = record {
   settled = λ i p at. (sound.kept i p at).settled;
 }
 
-same_answer : (a b : NodeAnswer) → a.neighbour ≡ b.neighbour → a.actions ≡ b.actions → a ≡ b
-same_answer a b neighbour actions = λ i. record { neighbour = neighbour i; actions = actions i }
-
--- octets are told in one way
-tells_once : (policy : Policy) (c : Conn) (octets : List ℕ) (s r t u : NodeState) (a b : NodeAnswer) →
-    IsNeighbourhood s.peers → s ≡ r → NodeTellsOctets policy c octets s a t → NodeTellsOctets policy c octets r b u →
-    (a ≡ b) × (t ≡ u)
-tells_once policy c octets s r t u a b sound same h k =
-    let also : NodeTellsOctets policy c octets s b u =
-    subst (λ v. NodeTellsOctets policy c octets v b u) (sym same) k in
-    let one = moves_once policy c octets s.node s.peers h.peers also.peers a b sound a.neighbour b.neighbour refl refl
-    h.moved also.moved in
-    let answer = same_answer a b one.neighbour one.actions in (
-      answer,
-      h.left ∙ ap (λ (v : NodeAnswer). node_settled v.neighbour h.peers v.actions s) answer
-          ∙ ap (λ l. node_settled b.neighbour l b.actions s) one.peers ∙ sym also.left,
-    )
-
 -- the node with what is left of an intake
 abbrev with_rest : Conn → NodeState → Intake → List ℕ → NodeState
 with_rest c s i rest = with_node_intakes (with_intake c.0 (Some (record i { octets = rest })) s.intakes) s
@@ -70,171 +52,172 @@ with_rest c s i rest = with_node_intakes (with_intake c.0 (Some (record i { octe
 abbrev with_broken : Conn → NodeState → Intake → NodeState
 with_broken c s i = with_node_intakes (with_intake c.0 (Some (broken_intake i)) s.intakes) s
 
-message_once : OneFront → (policy : Policy) (c : Conn) (s t u : NodeState) (a b : NodeAnswer) →
-    IsNeighbourhood s.peers → NodeTellsMessage policy c s a t → NodeTellsMessage policy c s b u → (a ≡ b) × (t ≡ u)
-message_once front policy c s t u a b sound h k =
-    let same = one_inside (s.intakes c.0) h.intake k.intake h.there k.there in
-    let first : IsFirst h.intake k.message k.rest = subst (λ i. IsFirst i k.message k.rest) (sym same) k.first in
-    let one = front h.intake.max h.message k.message h.rest k.rest h.first.frame first.frame
-    (sym h.first.octets ∙ first.octets) in
-    let told : NodeTellsOctets policy c h.message (with_rest c s k.intake k.rest) b u =
-    subst (λ m. NodeTellsOctets policy c m (with_rest c s k.intake k.rest) b u) (sym one.0) k.told in
-    tells_once policy c h.message (with_rest c s h.intake h.rest) (with_rest c s k.intake k.rest) t u a b sound
-    (ap (with_rest c s h.intake) one.1 ∙ ap (λ i. with_rest c s i k.rest) same) h.told told
-
-fault_once : (policy : Policy) (c : Conn) (s t u : NodeState) (a b : NodeAnswer) → IsNeighbourhood s.peers →
-    NodeTellsFault policy c s a t → NodeTellsFault policy c s b u → (a ≡ b) × (t ≡ u)
-fault_once policy c s t u a b sound h k =
-    let same = one_inside (s.intakes c.0) h.intake k.intake h.there k.there in
-    tells_once policy c [] (with_broken c s h.intake) (with_broken c s k.intake) t u a b sound
-    (ap (with_broken c s) same) h.told k.told
-
-message_or_fault : FrameOrFault → (policy : Policy) (c : Conn) (s t u : NodeState) (a b : NodeAnswer) →
-    NodeTellsMessage policy c s a t → NodeTellsFault policy c s b u → ⊥
-message_or_fault either policy c s t u a b h k =
-    let same = one_inside (s.intakes c.0) h.intake k.intake h.there k.there in
-    let faulty : IsFaulty h.intake = subst (λ i. IsFaulty i) (sym same) k.faulty in
-    either h.intake.max h.message h.rest faulty.fault.0 h.first.frame
-    (subst (λ l. HasFault h.intake.max l faulty.fault.0) h.first.octets faulty.fault.1)
-
 -- one turn
 pub record SameTurn (x y : Option Conn) (a b : NodeAnswer) (t u : NodeState) : Type 0 where
   pub arrived : x ≡ y
   pub answer : a ≡ b
   pub left : t ≡ u
 
-next_once : OneFront → FrameOrFault → (policy : Policy) (x y : Option Conn) (c : Conn) (s t u : NodeState)
-    (a b : NodeAnswer) → IsNeighbourhood s.peers → NodeTellsAs policy x c s a t → NodeTellsAs policy y c s b u →
-    SameTurn x y a b t u
-next_once front either policy None None c s t u a b sound h k =
-    let one = fault_once policy c s t u a b sound h k in record { arrived = refl; answer = one.0; left = one.1 }
-next_once front either policy None (Some e) c s t u a b sound h k =
-    absurd (message_or_fault either policy c s u t b a k.1 h)
-next_once front either policy (Some d) None c s t u a b sound h k =
-    absurd (message_or_fault either policy c s t u a b h.1 k)
-next_once front either policy (Some d) (Some e) c s t u a b sound h k =
-    let one = message_once front policy c s t u a b sound h.1 k.1 in
-    record { arrived = ap (λ v. Some v) (h.0 ∙ sym k.0); answer = one.0; left = one.1 }
+-- what a policy tells of connection c
+module _ (policy : Policy) (c : Conn) where
+  -- octets are told in one way
+  tells_once : (octets : List ℕ) (s r t u : NodeState) (a b : NodeAnswer) → IsNeighbourhood s.peers → s ≡ r →
+      NodeTellsOctets policy c octets s a t → NodeTellsOctets policy c octets r b u → (a ≡ b) × (t ≡ u)
+  tells_once octets s r t u a b sound same h k =
+      let also : NodeTellsOctets policy c octets s b u =
+      subst (λ v. NodeTellsOctets policy c octets v b u) (sym same) k in
+      let one = moves_once policy c octets s.node s.peers h.peers also.peers a b sound a.neighbour b.neighbour refl refl
+      h.moved also.moved in
+      let answer : a ≡ b = λ i. record { neighbour = one.neighbour i; actions = one.actions i } in (
+        answer,
+        h.left ∙ ap (λ (v : NodeAnswer). node_settled v.neighbour h.peers v.actions s) answer
+            ∙ ap (λ l. node_settled b.neighbour l b.actions s) one.peers ∙ sym also.left,
+      )
 
--- where all is told no turn is left
-out_tells_nothing : (policy : Policy) (x : Option Conn) (c : Conn) (s t : NodeState) (a : NodeAnswer) →
-    NodeIsOut c s → NodeTellsAs policy x c s a t → ⊥
-out_tells_nothing policy None c s t a out h =
-    let told : IsToldOut h.intake = subst (λ o. IfSome o IsToldOut) h.there out in
-    (told h.faulty.whole).no_fault h.faulty.fault.0 h.faulty.fault.1
-out_tells_nothing policy (Some d) c s t a out h =
-    let told : IsToldOut h.1.intake = subst (λ o. IfSome o IsToldOut) h.1.there out in
-    (told h.1.first.whole).no_frame h.1.message h.1.rest h.1.first.frame h.1.first.octets
+  module _ (front : OneFront) (either : FrameOrFault) where
+    message_once : (s t u : NodeState) (a b : NodeAnswer) → IsNeighbourhood s.peers →
+        NodeTellsMessage policy c s a t → NodeTellsMessage policy c s b u → (a ≡ b) × (t ≡ u)
+    message_once s t u a b sound h k =
+        let same = one_inside (s.intakes c.0) h.intake k.intake h.there k.there in
+        let first : IsFirst h.intake k.message k.rest = subst (λ i. IsFirst i k.message k.rest) (sym same) k.first in
+        let one = front h.intake.max h.message k.message h.rest k.rest h.first.frame first.frame
+        (sym h.first.octets ∙ first.octets) in
+        let told : NodeTellsOctets policy c h.message (with_rest c s k.intake k.rest) b u =
+        subst (λ m. NodeTellsOctets policy c m (with_rest c s k.intake k.rest) b u) (sym one.0) k.told in
+        tells_once h.message (with_rest c s h.intake h.rest) (with_rest c s k.intake k.rest) t u a b sound
+        (ap (with_rest c s h.intake) one.1 ∙ ap (λ i. with_rest c s i k.rest) same) h.told told
+
+    message_or_fault : (s t u : NodeState) (a b : NodeAnswer) → NodeTellsMessage policy c s a t →
+        NodeTellsFault policy c s b u → ⊥
+    message_or_fault s t u a b h k =
+        let same = one_inside (s.intakes c.0) h.intake k.intake h.there k.there in
+        let faulty : IsFaulty h.intake = subst (λ i. IsFaulty i) (sym same) k.faulty in
+        either h.intake.max h.message h.rest faulty.fault.0 h.first.frame
+        (subst (λ l. HasFault h.intake.max l faulty.fault.0) h.first.octets faulty.fault.1)
+
+    next_once : (x y : Option Conn) (s t u : NodeState) (a b : NodeAnswer) → IsNeighbourhood s.peers →
+        NodeTellsAs policy x c s a t → NodeTellsAs policy y c s b u → SameTurn x y a b t u
+    next_once None None s t u a b sound h k =
+        let same = one_inside (s.intakes c.0) h.intake k.intake h.there k.there in
+        let one = tells_once [] (with_broken c s h.intake) (with_broken c s k.intake) t u a b sound
+        (ap (with_broken c s) same) h.told k.told in
+        record { arrived = refl; answer = one.0; left = one.1 }
+    next_once None (Some e) s t u a b sound h k = absurd (message_or_fault s u t b a k.1 h)
+    next_once (Some d) None s t u a b sound h k = absurd (message_or_fault s t u a b h.1 k)
+    next_once (Some d) (Some e) s t u a b sound h k =
+        let one = message_once s t u a b sound h.1 k.1 in
+        record { arrived = ap (λ v. Some v) (h.0 ∙ sym k.0); answer = one.0; left = one.1 }
+
+  -- where all is told no turn is left
+  out_tells_nothing : (x : Option Conn) (s t : NodeState) (a : NodeAnswer) → NodeIsOut c s →
+      NodeTellsAs policy x c s a t → ⊥
+  out_tells_nothing None s t a out h =
+      let told : IsToldOut h.intake = subst (λ o. IfSome o IsToldOut) h.there out in
+      (told h.faulty.whole).no_fault h.faulty.fault.0 h.faulty.fault.1
+  out_tells_nothing (Some d) s t a out h =
+      let told : IsToldOut h.1.intake = subst (λ o. IfSome o IsToldOut) h.1.there out in
+      (told h.1.first.whole).no_frame h.1.message h.1.rest h.1.first.frame h.1.first.octets
 
 -- what octets leave is as sound as what was before them
-wholly_told : PeerLaws → (policy : Policy) (c : Conn) (s : List ℕ) (ps qs : List (Option Peer)) (i : ℕ)
-    (actions : List Action) → Wholly ps → IsAddressed policy ps c s i → PeerIsTold ps qs i (Arrived c s) actions →
-    Wholly qs
-wholly_told laws policy c s ps qs i actions sound at told =
-    let e = Arrived c s in
-    let x = told.before in
-    let y = told.after in
-    let was = sound.settled i x told.was in
-    let now : peer_at (set ps i (Some y)) i ≡ Some y = set_here ps i (Some y) (subst IsSome (sym told.was) refl) in
-    let left = leaves laws.step laws.alone x y e was.shaped (inl (actions, told.acts)) in
-    let after : IsSettled y = subst LeavesSettled told.acts (laws.settled x e was) in
-    subst Wholly (sym (told_set ps qs i e actions told)) (record {
-      neighbourhood = record {
-        apart = apart_after ps i e x y told.was now left alone sound.neighbourhood.apart;
-        unlike = unlike_same ps _ (hosts_after ps i e x y told.was now left) sound.neighbourhood.unlike;
-      };
-      settled = each_set IsSettled ps i (Some y) (λ p is. subst IsSettled (one_some y p is) after) sound.settled;
-    })
-  where
-    alone : (j : ℕ) (d : Conn) → Some c ≡ Some d → holds_at ps d j ≡ true → j ≡ i
-    alone j d named held =
-        one_addressed policy ps c s j i sound.neighbourhood
-        (inl (subst (λ n. holds_at ps n j ≡ true) (sym (one_some c d named)) held)) at
+module _ (laws : PeerLaws) (policy : Policy) (c : Conn) where
+  wholly_told : (octets : List ℕ) (ps qs : List (Option Peer)) (i : ℕ) (actions : List Action) → Wholly ps →
+      IsAddressed policy ps c octets i → PeerIsTold ps qs i (Arrived c octets) actions → Wholly qs
+  wholly_told octets ps qs i actions sound at told =
+      let e = Arrived c octets in
+      let x = told.before in
+      let y = told.after in
+      let was = sound.settled i x told.was in
+      let now : peer_at (set ps i (Some y)) i ≡ Some y = set_here ps i (Some y) (subst IsSome (sym told.was) refl) in
+      let left = leaves laws.step laws.alone x y e was.shaped (inl (actions, told.acts)) in
+      let after : IsSettled y = subst LeavesSettled told.acts (laws.settled x e was) in
+      subst Wholly (sym (told_set ps qs i e actions told)) (record {
+        neighbourhood = record {
+          apart = apart_after ps i e x y told.was now left alone sound.neighbourhood.apart;
+          unlike = unlike_same ps _ (hosts_after ps i e x y told.was now left) sound.neighbourhood.unlike;
+        };
+        settled = each_set IsSettled ps i (Some y) (λ p is. subst IsSettled (one_some y p is) after) sound.settled;
+      })
+    where
+      alone : (j : ℕ) (d : Conn) → Some c ≡ Some d → holds_at ps d j ≡ true → j ≡ i
+      alone j d named held =
+          one_addressed policy ps c octets j i sound.neighbourhood
+          (inl (subst (λ n. holds_at ps n j ≡ true) (sym (one_some c d named)) held)) at
 
--- where a host is added that nobody has
-no_such_host : (policy : Policy) (ps : List (Option Peer)) (c : Conn) (octets : List ℕ) (k : Config) →
-    IsPermitted policy ps c octets k → (j : ℕ) → host_at ps j ≡ Some (lower k.peer) → ⊥
-no_such_host policy ps c octets k h j is =
-    h.unknown.nobody j (inr (
-      stranger_free policy ps c octets h.unknown.nobody,
-      inl (
-        h.unknown.call,
-        h.unknown.calls,
-        is ∙ sym (ap (λ (host : List ℕ). Some (lower host)) h.unknown.named),
-      ),
-    ))
+  -- a host is added that nobody has, and then its CER concerns it
+  module _ (octets : List ℕ) (ps : List (Option Peer)) (k : Config) (h : IsPermitted policy ps c octets k) where
+    host_is : Some (lower k.peer) ≡ Some (lower h.unknown.call.1)
+    host_is = sym (ap (λ (host : List ℕ). Some (lower host)) h.unknown.named)
 
-wholly_added : PeerLaws → (policy : Policy) (ps : List (Option Peer)) (c : Conn) (octets : List ℕ) (k : Config) →
-    Wholly ps → IsPermitted policy ps c octets k → Wholly (with_new ps k)
-wholly_added laws policy ps c octets k sound permitted =
-    let y = new_peer k k.first_id in
-    record {
-      neighbourhood = record {
-        apart = apart_less ps (with_new ps k) (λ j d. still ps y k.first_id d j refl) sound.neighbourhood.apart;
-        unlike = unlike_grown ps y k.peer refl (no_such_host policy ps c octets k permitted) sound.neighbourhood.unlike;
-      };
-      settled = each_grown IsSettled ps y (laws.fresh k k.first_id) sound.settled;
-    }
+    wholly_added : Wholly ps → Wholly (with_new ps k)
+    wholly_added sound =
+        let y = new_peer k k.first_id in
+        record {
+          neighbourhood = record {
+            apart = apart_less ps (with_new ps k) (λ j d. still ps y k.first_id d j refl) sound.neighbourhood.apart;
+            unlike = unlike_grown ps y k.peer refl
+                (λ j is. h.unknown.nobody j (inr (
+                  stranger_free policy ps c octets h.unknown.nobody,
+                  inl (h.unknown.call, h.unknown.calls, is ∙ host_is),
+                ))) sound.neighbourhood.unlike;
+          };
+          settled = each_grown IsSettled ps y (laws.fresh k k.first_id) sound.settled;
+        }
 
--- its CER concerns it then
-added_is_addressed : (policy : Policy) (ps : List (Option Peer)) (c : Conn) (octets : List ℕ) (k : Config) (i : ℕ) →
-    IsPermitted policy ps c octets k → i ≡ length ps → IsAddressed policy (with_new ps k) c octets i
-added_is_addressed policy ps c octets k i h here =
-    inr (
-      λ j. grown_cases (λ o. holds_it c o ≡ false) ps (Some (new_peer k k.first_id)) j (λ last. refl)
-          (stranger_free policy ps c octets h.unknown.nobody j),
-      inl (
-        h.unknown.call,
-        h.unknown.calls,
-        ap (host_at (with_new ps k)) here ∙ ap host_of (grown_here ps (Some (new_peer k k.first_id)))
-            ∙ sym (ap (λ (host : List ℕ). Some (lower host)) h.unknown.named),
-      ),
-    )
+    added_is_addressed : (i : ℕ) → i ≡ length ps → IsAddressed policy (with_new ps k) c octets i
+    added_is_addressed i here =
+        inr (
+          λ j. grown_cases (λ o. holds_it c o ≡ false) ps (Some (new_peer k k.first_id)) j (λ last. refl)
+              (stranger_free policy ps c octets h.unknown.nobody j),
+          inl (
+            h.unknown.call,
+            h.unknown.calls,
+            ap (host_at (with_new ps k)) here ∙ ap host_of (grown_here ps (Some (new_peer k k.first_id))) ∙ host_is,
+          ),
+        )
 
-moved_wholly : PeerLaws → (policy : Policy) (c : Conn) (s : List ℕ) (n : Node) (ps qs : List (Option Peer))
-    (who : Option ℕ) (actions : List Action) → Wholly ps → NodeMoves policy c s n ps who actions qs → Wholly qs
-moved_wholly laws policy c s n ps qs (Some i) actions sound (inl m) =
-    wholly_told laws policy c s ps qs i actions sound m.0 m.1
-moved_wholly laws policy c s n ps qs (Some i) actions sound (inr (k, permitted, joins)) =
-    wholly_told laws policy c s (with_new ps k) qs i actions (wholly_added laws policy ps c s k sound permitted)
-    (added_is_addressed policy ps c s k i permitted joins.number) joins.told
-moved_wholly laws policy c s n ps qs None actions sound m =
-    subst Wholly (sym (peers_stay policy c s n ps qs actions m.1)) sound
+  moved_wholly : (octets : List ℕ) (n : Node) (ps qs : List (Option Peer)) (who : Option ℕ) (actions : List Action) →
+      Wholly ps → NodeMoves policy c octets n ps who actions qs → Wholly qs
+  moved_wholly octets n ps qs (Some i) actions sound (inl m) = wholly_told octets ps qs i actions sound m.0 m.1
+  moved_wholly octets n ps qs (Some i) actions sound (inr (k, permitted, joins)) =
+      wholly_told octets (with_new ps k) qs i actions (wholly_added octets ps k permitted sound)
+      (added_is_addressed octets ps k permitted i joins.number) joins.told
+  moved_wholly octets n ps qs None actions sound m =
+      subst Wholly (sym (peers_stay policy c octets n ps qs actions m.1)) sound
 
-told_wholly : PeerLaws → (policy : Policy) (c : Conn) (octets : List ℕ) (s t : NodeState) (a : NodeAnswer) →
-    Wholly s.peers → NodeTellsOctets policy c octets s a t → Wholly t.peers
-told_wholly laws policy c octets s t a sound h =
-    subst (λ (v : NodeState). Wholly v.peers) (sym h.left)
-    (moved_wholly laws policy c octets s.node s.peers h.peers a.neighbour a.actions sound h.moved)
+  told_wholly : (octets : List ℕ) (s t : NodeState) (a : NodeAnswer) → Wholly s.peers →
+      NodeTellsOctets policy c octets s a t → Wholly t.peers
+  told_wholly octets s t a sound h =
+      subst (λ (v : NodeState). Wholly v.peers) (sym h.left)
+      (moved_wholly octets s.node s.peers h.peers a.neighbour a.actions sound h.moved)
 
-next_wholly : PeerLaws → (policy : Policy) (x : Option Conn) (c : Conn) (s t : NodeState) (a : NodeAnswer) →
-    Wholly s.peers → NodeTellsAs policy x c s a t → Wholly t.peers
-next_wholly laws policy None c s t a sound h =
-    told_wholly laws policy c [] (with_broken c s h.intake) t a sound h.told
-next_wholly laws policy (Some d) c s t a sound h =
-    told_wholly laws policy c h.1.message (with_rest c s h.1.intake h.1.rest) t a sound h.1.told
+  next_wholly : (x : Option Conn) (s t : NodeState) (a : NodeAnswer) → Wholly s.peers → NodeTellsAs policy x c s a t →
+      Wholly t.peers
+  next_wholly None s t a sound h = told_wholly [] (with_broken c s h.intake) t a sound h.told
+  next_wholly (Some d) s t a sound h =
+      told_wholly h.1.message (with_rest c s h.1.intake h.1.rest) t a sound h.1.told
 
 same_turn : (turn other : NodeTurn) → turn.arrived ≡ other.arrived → turn.answer ≡ other.answer → turn ≡ other
 same_turn turn other arrived answer = λ i. record { arrived = arrived i; answer = answer i }
 
-pub told_out_once : OneFront → FrameOrFault → PeerLaws → (policy : Policy) (c : Conn) (s t u : NodeState)
-    (turns others : List NodeTurn) → Wholly s.peers → NodeTellsAlong policy c s turns t → NodeIsOut c t →
-    NodeTellsAlong policy c s others u → NodeIsOut c u → (turns ≡ others) × (t ≡ u)
-told_out_once front either laws policy c s t u [] [] sound h out k also = (refl, sym h ∙ k)
-told_out_once front either laws policy c s t u [] (other ∷ others) sound h out k also =
-    absurd (out_tells_nothing policy other.arrived c s k.0 other.answer (subst (λ v. NodeIsOut c v) (sym h) out) k.1)
-told_out_once front either laws policy c s t u (turn ∷ turns) [] sound h out k also =
-    absurd (out_tells_nothing policy turn.arrived c s h.0 turn.answer (subst (λ v. NodeIsOut c v) (sym k) also) h.1)
-told_out_once front either laws policy c s t u (turn ∷ turns) (other ∷ others) sound h out k also =
-    let one = next_once front either policy turn.arrived other.arrived c s h.0 k.0 turn.answer other.answer
-    sound.neighbourhood h.1 k.1 in
-    let rest = told_out_once front either laws policy c k.0 t u turns others
-    (next_wholly laws policy other.arrived c s k.0 other.answer sound k.1)
-    (subst (λ v. NodeTellsAlong policy c v turns t) one.left h.2) out k.2 also in
-    (ap (λ x. x ∷ turns) (same_turn turn other one.arrived one.answer) ∙ ap (λ l. other ∷ l) rest.0, rest.1)
+module _ (front : OneFront) (either : FrameOrFault) (laws : PeerLaws) (policy : Policy) (c : Conn) where
+  pub told_out_once : (s t u : NodeState) (turns others : List NodeTurn) → Wholly s.peers →
+      NodeTellsAlong policy c s turns t → NodeIsOut c t → NodeTellsAlong policy c s others u → NodeIsOut c u →
+      (turns ≡ others) × (t ≡ u)
+  told_out_once s t u [] [] sound h out k also = (refl, sym h ∙ k)
+  told_out_once s t u [] (other ∷ others) sound h out k also =
+      absurd (out_tells_nothing policy c other.arrived s k.0 other.answer (subst (λ v. NodeIsOut c v) (sym h) out) k.1)
+  told_out_once s t u (turn ∷ turns) [] sound h out k also =
+      absurd (out_tells_nothing policy c turn.arrived s h.0 turn.answer (subst (λ v. NodeIsOut c v) (sym k) also) h.1)
+  told_out_once s t u (turn ∷ turns) (other ∷ others) sound h out k also =
+      let one = next_once policy c front either turn.arrived other.arrived s h.0 k.0 turn.answer other.answer
+      sound.neighbourhood h.1 k.1 in
+      let rest = told_out_once k.0 t u turns others
+      (next_wholly laws policy c other.arrived s k.0 other.answer sound k.1)
+      (subst (λ v. NodeTellsAlong policy c v turns t) one.left h.2) out k.2 also in
+      (ap (λ x. x ∷ turns) (same_turn turn other one.arrived one.answer) ∙ ap (λ l. other ∷ l) rest.0, rest.1)
 
 -- the pieces are a telling of the whole
-pieces_along : FaultStands → (policy : Policy) (c : Conn) (pieces : List (List ℕ)) (s t : NodeState)
+pub pieces_along : FaultStands → (policy : Policy) (c : Conn) (pieces : List (List ℕ)) (s t : NodeState)
     (turns : List NodeTurn) → NodeTellsPieces policy c s pieces turns t →
     NodeTellsAlong policy c (node_fed c (concat pieces) s) turns t
 pieces_along stands policy c [] s t turns h =
@@ -243,11 +226,3 @@ pieces_along stands policy c (piece ∷ pieces) s t turns h =
     subst (λ l. NodeTellsAlong policy c (node_fed c (piece ++ concat pieces) s) l t) (sym h.3)
     (cuts_alike stands policy c piece (concat pieces) s h.2 t h.0 h.1 h.4
     (pieces_along stands policy c pieces h.2 t h.1 h.5))
-
-pub pieces_told_out : OneFront → FrameOrFault → FaultStands → PeerLaws → (policy : Policy) (c : Conn)
-    (pieces : List (List ℕ)) (s t u : NodeState) (turns whole : List NodeTurn) → Wholly s.peers →
-    NodeTellsPieces policy c s pieces turns t → NodeIsOut c t →
-    NodeTellsAlong policy c (node_fed c (concat pieces) s) whole u → NodeIsOut c u → (turns ≡ whole) × (t ≡ u)
-pieces_told_out front either stands laws policy c pieces s t u turns whole sound h out k also =
-    told_out_once front either laws policy c (node_fed c (concat pieces) s) t u turns whole sound
-    (pieces_along stands policy c pieces s t turns h) out k also

@@ -18,7 +18,7 @@ use Rattle.dm_node.specs.NodeStates.{NodeAnswer}
 use Rattle.dm_node.proofs.Basics.{one_some}
 use Rattle.dm_node.proofs.Concerned.{one_addressed}
 use Rattle.dm_node.proofs.Configured.{one_permitted, permitted_or_not}
-use Rattle.dm_node.proofs.Newcomers.{OutOrTurnedOff, joined}
+use Rattle.dm_node.proofs.Newcomers.{OutOrTurnedOff, joined, peers_stay}
 use Rattle.dm_node.proofs.Taking.{told_set}
 
 same_actions : (a b : List Action) (p q : Peer) → Moved a p ≡ Moved b q → a ≡ b
@@ -37,79 +37,73 @@ told_once ps qs rs i e a b h k =
       told_set ps qs i e a h ∙ ap (λ p. set ps i (Some p)) after ∙ sym (told_set ps rs i e b k),
     )
 
--- what a new peer of a configuration does
-acted_as : (k l : Config) (c : Conn) (octets : List ℕ) (a : List Action) (q : Peer) → k ≡ l →
-    acts (new_peer l l.first_id) (Arrived c octets) ≡ Moved a q →
-    acts (new_peer k k.first_id) (Arrived c octets) ≡ Moved a q
-acted_as k l c octets a q same is =
-    subst (λ (x : Config). acts (new_peer x x.first_id) (Arrived c octets) ≡ Moved a q) (sym same) is
-
--- a host joins in one way
-joins_once : (ps qs rs : List (Option Peer)) (i j : ℕ) (c : Conn) (octets : List ℕ) (a b : List Action)
-    (k l : Config) → k ≡ l → Joins ps qs i c octets a k → Joins ps rs j c octets b l → (i ≡ j) × (a ≡ b) × (qs ≡ rs)
-joins_once ps qs rs i j c octets a b k l same h g =
-    let number : i ≡ j = h.number ∙ sym g.number in
-    let told : PeerIsTold (with_new ps k) rs j (Arrived c octets) b =
-    subst (λ (x : Config). PeerIsTold (with_new ps x) rs j (Arrived c octets) b) (sym same) g.told in
-    let one = told_once (with_new ps k) qs rs i (Arrived c octets) a b h.told
-    (subst (λ m. PeerIsTold (with_new ps k) rs m (Arrived c octets) b) (sym number) told) in
-    (number, one.0, one.1)
-
--- and where it joins it doesn't stay out
-joins_or_not : (policy : Policy) (c : Conn) (octets : List ℕ) (n : Node) (ps qs rs : List (Option Peer)) (i : ℕ)
-    (a b : List Action) (k : Config) → IsPermitted policy ps c octets k → Joins ps qs i c octets a k →
-    OutOrTurnedOff policy c octets n ps b rs → ⊥
-joins_or_not policy c octets n ps qs rs i a b k permitted joins (inl (l, permits, out)) =
-    let acted = acted_as k l c octets b out.after (one_permitted policy ps c octets k l permitted permits) out.acted in
-    let after : joins.told.after ≡ out.after =
-    same_after a b joins.told.after out.after (sym (joined ps qs i c octets a k joins) ∙ acted) in
-    joins.stays (ap (λ (x : Peer). x.standing.core.state) after ∙ out.closed)
-joins_or_not policy c octets n ps qs rs i a b k permitted joins (inr (answer, same, forbidden)) =
-    permitted_or_not policy ps c octets k permitted forbidden
-
--- where octets concern nobody and nobody joins
-nobody_once : (policy : Policy) (c : Conn) (octets : List ℕ) (n : Node) (ps qs rs : List (Option Peer))
-    (a b : List Action) → OutOrTurnedOff policy c octets n ps a qs → OutOrTurnedOff policy c octets n ps b rs →
-    (a ≡ b) × (qs ≡ rs)
-nobody_once policy c octets n ps qs rs a b (inl (k, permitted, out)) (inl (l, permits, also)) =
-    let acted = acted_as k l c octets b also.after (one_permitted policy ps c octets k l permitted permits)
-    also.acted in
-    (same_actions a b out.after also.after (sym out.acted ∙ acted), out.same ∙ sym also.same)
-nobody_once policy c octets n ps qs rs a b (inl (k, permitted, out)) (inr (reply, also, forbidden)) =
-    absurd (permitted_or_not policy ps c octets k permitted forbidden)
-nobody_once policy c octets n ps qs rs a b (inr (answer, same, forbidden)) (inl (l, permits, out)) =
-    absurd (permitted_or_not policy ps c octets l permits forbidden)
-nobody_once policy c octets n ps qs rs a b (inr (answer, same, forbidden)) (inr (reply, also, never)) =
-    (answer ∙ sym reply, same ∙ sym also)
-
 -- one event has one outcome
 pub record SameMove (a b : NodeAnswer) (qs rs : List (Option Peer)) : Type 0 where
   pub neighbour : a.neighbour ≡ b.neighbour
   pub actions : a.actions ≡ b.actions
   pub peers : qs ≡ rs
 
-pub moves_once : (policy : Policy) (c : Conn) (s : List ℕ) (n : Node) (ps qs rs : List (Option Peer))
-    (a b : NodeAnswer) → IsNeighbourhood ps → (x y : Option ℕ) → a.neighbour ≡ x → b.neighbour ≡ y →
-    NodeMoves policy c s n ps x a.actions qs → NodeMoves policy c s n ps y b.actions rs → SameMove a b qs rs
-moves_once policy c s n ps qs rs a b sound (Some i) (Some j) is also (inl h) (inl k) =
-    let same : i ≡ j = one_addressed policy ps c s i j sound h.0 k.0 in
-    let one = told_once ps qs rs j (Arrived c s) a.actions b.actions
-    (subst (λ m. PeerIsTold ps qs m (Arrived c s) a.actions) same h.1) k.1 in
-    record { neighbour = is ∙ ap Some same ∙ sym also; actions = one.0; peers = one.1 }
-moves_once policy c s n ps qs rs a b sound (Some i) (Some j) is also (inl h) (inr (k, permitted, joins)) =
-    absurd (permitted.unknown.nobody i h.0)
-moves_once policy c s n ps qs rs a b sound (Some i) (Some j) is also (inr (k, permitted, joins)) (inl h) =
-    absurd (permitted.unknown.nobody j h.0)
-moves_once policy c s n ps qs rs a b sound (Some i) (Some j) is also (inr (k, permitted, h)) (inr (l, permits, g)) =
-    let one = joins_once ps qs rs i j c s a.actions b.actions k l
-    (one_permitted policy ps c s k l permitted permits) h g in
-    record { neighbour = is ∙ ap Some one.0 ∙ sym also; actions = one.1; peers = one.2 }
-moves_once policy c s n ps qs rs a b sound (Some i) None is also (inl h) g = absurd (g.0 i h.0)
-moves_once policy c s n ps qs rs a b sound (Some i) None is also (inr (k, permitted, joins)) g =
-    absurd (joins_or_not policy c s n ps qs rs i a.actions b.actions k permitted joins g.1)
-moves_once policy c s n ps qs rs a b sound None (Some j) is also h (inl g) = absurd (h.0 j g.0)
-moves_once policy c s n ps qs rs a b sound None (Some j) is also h (inr (k, permitted, joins)) =
-    absurd (joins_or_not policy c s n ps rs qs j b.actions a.actions k permitted joins h.1)
-moves_once policy c s n ps qs rs a b sound None None is also h g =
-    let one = nobody_once policy c s n ps qs rs a.actions b.actions h.1 g.1 in
-    record { neighbour = is ∙ sym also; actions = one.0; peers = one.1 }
+-- octets of connection c, told by the policy
+module _ (policy : Policy) (c : Conn) (octets : List ℕ) (n : Node) (ps : List (Option Peer)) where
+  -- what a new peer does of the one configuration that is permitted
+  acted_as : (k l : Config) (a : List Action) (q : Peer) → IsPermitted policy ps c octets k →
+      IsPermitted policy ps c octets l → acts (new_peer l l.first_id) (Arrived c octets) ≡ Moved a q →
+      acts (new_peer k k.first_id) (Arrived c octets) ≡ Moved a q
+  acted_as k l a q permitted permits is =
+      subst (λ (x : Config). acts (new_peer x x.first_id) (Arrived c octets) ≡ Moved a q)
+      (sym (one_permitted policy ps c octets k l permitted permits)) is
+
+  -- where a host joins it doesn't stay out
+  joins_or_not : (qs rs : List (Option Peer)) (i : ℕ) (a b : List Action) (k : Config) →
+      IsPermitted policy ps c octets k → Joins ps qs i c octets a k → OutOrTurnedOff policy c octets n ps b rs → ⊥
+  joins_or_not qs rs i a b k permitted joins (inl (l, permits, out)) =
+      let after : joins.told.after ≡ out.after =
+      same_after a b joins.told.after out.after
+      (sym (joined ps qs i c octets a k joins) ∙ acted_as k l b out.after permitted permits out.acted) in
+      joins.stays (ap (λ (x : Peer). x.standing.core.state) after ∙ out.closed)
+  joins_or_not qs rs i a b k permitted joins (inr (answer, same, forbidden)) =
+      permitted_or_not policy ps c octets k permitted forbidden
+
+  -- where octets concern nobody and nobody joins
+  nobody_once : (qs rs : List (Option Peer)) (a b : List Action) → OutOrTurnedOff policy c octets n ps a qs →
+      OutOrTurnedOff policy c octets n ps b rs → a ≡ b
+  nobody_once qs rs a b (inl (k, permitted, out)) (inl (l, permits, also)) =
+      same_actions a b out.after also.after
+      (sym out.acted ∙ acted_as k l b also.after permitted permits also.acted)
+  nobody_once qs rs a b (inl (k, permitted, out)) (inr (reply, also, forbidden)) =
+      absurd (permitted_or_not policy ps c octets k permitted forbidden)
+  nobody_once qs rs a b (inr (answer, same, forbidden)) (inl (l, permits, out)) =
+      absurd (permitted_or_not policy ps c octets l permits forbidden)
+  nobody_once qs rs a b (inr (answer, same, forbidden)) (inr (reply, also, never)) = answer ∙ sym reply
+
+  pub moves_once : (qs rs : List (Option Peer)) (a b : NodeAnswer) → IsNeighbourhood ps → (x y : Option ℕ) →
+      a.neighbour ≡ x → b.neighbour ≡ y → NodeMoves policy c octets n ps x a.actions qs →
+      NodeMoves policy c octets n ps y b.actions rs → SameMove a b qs rs
+  moves_once qs rs a b sound (Some i) (Some j) is also (inl h) (inl k) =
+      let same : i ≡ j = one_addressed policy ps c octets i j sound h.0 k.0 in
+      let one = told_once ps qs rs j (Arrived c octets) a.actions b.actions
+      (subst (λ m. PeerIsTold ps qs m (Arrived c octets) a.actions) same h.1) k.1 in
+      record { neighbour = is ∙ ap Some same ∙ sym also; actions = one.0; peers = one.1 }
+  moves_once qs rs a b sound (Some i) (Some j) is also (inl h) (inr (k, permitted, joins)) =
+      absurd (permitted.unknown.nobody i h.0)
+  moves_once qs rs a b sound (Some i) (Some j) is also (inr (k, permitted, joins)) (inl h) =
+      absurd (permitted.unknown.nobody j h.0)
+  moves_once qs rs a b sound (Some i) (Some j) is also (inr (k, permitted, h)) (inr (l, permits, g)) =
+      let number : i ≡ j = h.number ∙ sym g.number in
+      let told : PeerIsTold (with_new ps k) rs j (Arrived c octets) b.actions =
+      subst (λ (x : Config). PeerIsTold (with_new ps x) rs j (Arrived c octets) b.actions)
+      (sym (one_permitted policy ps c octets k l permitted permits)) g.told in
+      let one = told_once (with_new ps k) qs rs j (Arrived c octets) a.actions b.actions
+      (subst (λ m. PeerIsTold (with_new ps k) qs m (Arrived c octets) a.actions) number h.told) told in
+      record { neighbour = is ∙ ap Some number ∙ sym also; actions = one.0; peers = one.1 }
+  moves_once qs rs a b sound (Some i) None is also (inl h) g = absurd (g.0 i h.0)
+  moves_once qs rs a b sound (Some i) None is also (inr (k, permitted, joins)) g =
+      absurd (joins_or_not qs rs i a.actions b.actions k permitted joins g.1)
+  moves_once qs rs a b sound None (Some j) is also h (inl g) = absurd (h.0 j g.0)
+  moves_once qs rs a b sound None (Some j) is also h (inr (k, permitted, joins)) =
+      absurd (joins_or_not rs qs j b.actions a.actions k permitted joins h.1)
+  moves_once qs rs a b sound None None is also h g = record {
+    neighbour = is ∙ sym also;
+    actions = nobody_once qs rs a.actions b.actions h.1 g.1;
+    peers = peers_stay policy c octets n ps qs a.actions h.1 ∙ sym (peers_stay policy c octets n ps rs b.actions g.1);
+  }
