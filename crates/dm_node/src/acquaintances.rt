@@ -1,5 +1,5 @@
 //! Whom each neighbour met, by number.
-ghost use Rattle.std.specs.Prelude.{◌≡◌, [], false, nat_lt, length, option_map, OnOk};
+ghost use Rattle.std.specs.Prelude.{◌≡◌, [], false, nat_lt, length, OnOk};
 ghost use Rattle.std.specs.Option.{option_copied};
 ghost use Rattle.dm_slots.specs.Acquaintances.{known_after, known_if_any};
 ghost use Rattle.dm_node.specs.NodeKnown.{known_of, HasSparePlace, acquaintance_at, with_nobody, without_known};
@@ -10,32 +10,6 @@ use dm_peer::Peer;
 use dm_slots::Acquaintance;
 use dm_wire::Octets;
 use std::alloc::{AllocError, Global};
-
-/// Changes what is known in the place where the peer was opened by what came on the connection, or a CER waits by it;
-/// nothing where nobody has the place, nor where the peer was closed.
-fn meet_any_or_set_waiting_cer(
-    place: &mut Option<Acquaintance>,
-    exchange: Octets,
-    conn: Conn,
-    before: State,
-    peer: &Peer,
-)
-    ensures { place.new ≡ option_map (known_if_any exchange conn before peer.now) place.old }
-{
-    if let Some(known) = place {
-        known.meet_or_set_waiting_cer(exchange, conn, before, peer);
-    }
-}
-
-/// Changes what is known in the place where the peer was opened by an event that brought no message; nothing where
-/// nobody has the place, nor where the peer was closed.
-fn meet_any_if_opened_by_event(place: &mut Option<Acquaintance>, before: State, peer: &Peer)
-    ensures { place.new ≡ option_map (known_after before peer.now) place.old }
-{
-    if let Some(known) = place {
-        known.meet_if_opened_by_event(before, peer);
-    }
-}
 
 /// Whom each neighbour met: a place for each of theirs.
 #[derive(Drop)]
@@ -65,13 +39,6 @@ impl Acquaintances {
         }
     }
 
-    /// Whether the number has a place. It takes no memory.
-    fn has_place(&self, index: usize) -> bool
-        ensures { result ≡ nat_lt index (length (known_of self.now)) }
-    {
-        index < self.places.len()
-    }
-
     /// Makes room for a place more.
     pub(crate) fn reserve_place(&mut self) -> Result<(), AllocError>
         ensures same { known_of self.new ≡ known_of self.old }
@@ -98,7 +65,7 @@ impl Acquaintances {
         requires { nat_lt index (length (known_of self.old)) ≡ false → HasSparePlace self.old }
         ensures { known_of self.new ≡ given_place index (known_of self.old) }
     {
-        if !self.has_place(index) {
+        if index >= self.places.len() {
             self.push_place();
         }
     }
@@ -126,7 +93,9 @@ impl Acquaintances {
             ≡ with_known index (known_if_any exchange conn before peer.now) (known_of self.old) }
     {
         if index < self.places.len() {
-            meet_any_or_set_waiting_cer(&mut self.places[index], exchange, conn, before, peer);
+            if let Some(known) = &mut self.places[index] {
+                known.meet_or_set_waiting_cer(exchange, conn, before, peer);
+            }
         }
     }
 
@@ -136,7 +105,9 @@ impl Acquaintances {
         ensures { known_of self.new ≡ with_known index (known_after before peer.now) (known_of self.old) }
     {
         if index < self.places.len() {
-            meet_any_if_opened_by_event(&mut self.places[index], before, peer);
+            if let Some(known) = &mut self.places[index] {
+                known.meet_if_opened_by_event(before, peer);
+            }
         }
     }
 }

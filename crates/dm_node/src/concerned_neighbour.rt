@@ -7,7 +7,6 @@ ghost use Rattle.dm_node.specs.Telling.{told_of, IsCallOf, IsPorter, IsFirstFor,
 ghost use Rattle.dm_node.specs.Telling.{Concerns, IsAlone, IsHolder, IsMisdirected, StartsFree};
 ghost use Rattle.dm_peer.specs.Events.{Arrived};
 ghost use Rattle.dm_node.specs.declared.fault.OrderFault.{OrderFault};
-ghost use Rattle.dm_node.specs.declared.fault.OrderFault.TheVariants.{NoNeighbour};
 
 use crate::calling::read_cer_header_and_host;
 use crate::neighbours::{Neighbours, neighbours_are_apart_and_sound};
@@ -96,17 +95,6 @@ pub(crate) fn neighbour_for_arrived_octets<S: Strangers>(
     }
 }
 
-/// The number, where a neighbour has it, else `NoNeighbour`.
-fn neighbour_numbered(neighbours: &Neighbours, index: usize) -> Result<Option<usize>, OrderFault>
-    ensures found { IfOk result (λ o. (o ≡ Some index) × IsSome (peer_at neighbours.now index)) }
-    ensures fault { IfErr result (λ f. (f ≡ NoNeighbour) × (peer_at neighbours.now index ≡ None)) }
-{
-    match neighbours.peer(index) {
-        Some(_) => Ok(Some(index)),
-        None => Err(OrderFault::NoNeighbour),
-    }
-}
-
 /// The neighbour that the event concerns; None where it concerns none, `NoNeighbour` where nobody has the number in it.
 #[inline(always)]
 pub(crate) fn concerned_neighbour<S: Strangers>(
@@ -131,7 +119,10 @@ pub(crate) fn concerned_neighbour<S: Strangers>(
         | NodeEvent::Stop(index, _)
         | NodeEvent::Timeout(index)
         | NodeEvent::Tick(index)
-        | NodeEvent::Submit(index, _) => neighbour_numbered(neighbours, index),
+        | NodeEvent::Submit(index, _) => match neighbours.peer(index) {
+            Some(_) => Ok(Some(index)),
+            None => Err(OrderFault::NoNeighbour),
+        },
         NodeEvent::Ack(conn) | NodeEvent::Nack(conn) | NodeEvent::Gone(conn) => {
             Ok(holding_neighbour(neighbours, slots, conn))
         }
