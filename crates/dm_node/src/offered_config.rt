@@ -2,7 +2,7 @@
 ghost use Rattle.std.specs.Prelude.{ℕ, IfSome, IfNone, IfOk, OnErr, IsSome};
 ghost use Rattle.dm_machine.specs.declared.connection.Conn.{Conn};
 ghost use Rattle.dm_node.specs.Calling.{caller_of};
-ghost use Rattle.dm_node.specs.Policies.{IsMadeFor, IsUnfit, MakesFor, MakesNoneFor};
+ghost use Rattle.dm_node.specs.Policies.{MakesFor, MakesNoneFor};
 ghost use Rattle.dm_node.specs.Strangers.{IsPermitted, IsForbidden};
 ghost use Rattle.dm_node.specs.Telling.{IsAddressed};
 
@@ -12,22 +12,6 @@ use crate::neighbours::Neighbours;
 use dm_dict::NoMemory;
 use dm_peer::{Config, ConfigFault};
 use std::alloc::Global;
-
-/// The template's configuration for the host; none where the template's node can't have it as its peer.
-fn config_for_host(
-    alloc: Global,
-    template: &Config,
-    host: &[u8],
-) -> Result<Option<Config>, NoMemory>
-    ensures made { IfOk result (λ o. IfSome o (IsMadeFor template.now host.now)) }
-    ensures none { IfOk result (λ o. IfNone o (IsUnfit template.now host.now)) }
-{
-    match template.for_host(alloc, host) {
-        Ok(config) => Ok(Some(config)),
-        Err(ConfigFault::NoMemory) => Err(NoMemory),
-        Err(_) => Ok(None),
-    }
-}
 
 /// The configuration that the host's template makes for it; None where it has no template, or one that doesn't fit.
 fn config_by_template<S: Strangers>(
@@ -39,7 +23,11 @@ fn config_by_template<S: Strangers>(
     ensures none { IfOk result (λ o. IfNone o (MakesNoneFor (S.policy strangers.now) host.now)) }
 {
     match strangers.template(host) {
-        Some(template) => config_for_host(alloc, template, host),
+        Some(template) => match template.for_host(alloc, host) {
+            Ok(config) => Ok(Some(config)),
+            Err(ConfigFault::NoMemory) => Err(NoMemory),
+            Err(_) => Ok(None),
+        },
         None => Ok(None),
     }
 }

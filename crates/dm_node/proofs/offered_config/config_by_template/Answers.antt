@@ -1,19 +1,22 @@
--- The configuration of the template that the policy has.
-use Rattle.std.proofs.Common.{sym}
-use Rattle.dm_node.proofs.Taking.{if_ok}
-use Rattle.dm_node.proofs.Welcomed.{makes_for, makes_none}
+-- What the template's `for_host` makes, and why it makes none.
+use Rattle.std.proofs.Common.{Option, IfSome, sym, subst, ◌∙◌}
+use Rattle.dm_node.specs.Policies.{IsUnfit}
+use Rattle.dm_peer.specs.Hosts.{config_fault}
+use Rattle.dm_peer.specs.declared.config.Config.{Config}
+use Rattle.dm_node.proofs.Welcomed.{fits_where_made}
 use Rattle.dm_node.proofs.offered_config.config_by_template.Goals as goal
 
-pub returns-in-Some-clause-made : goal.returns-in-Some-clause-made
-returns-in-Some-clause-made g c =
-    if_ok c.config_for_host.result
-    (λ o h. makes_for (g.S.Strangers.policy c.args.strangers.now) c.args.host.now c.in-Some.template.now o
-    (sym c.in-Some.ensures) h)
-    c.config_for_host.ensures.made
-
-pub returns-in-Some-clause-none : goal.returns-in-Some-clause-none
-returns-in-Some-clause-none g c =
-    if_ok c.config_for_host.result
-    (λ o h. makes_none (g.S.Strangers.policy c.args.strangers.now) c.args.host.now c.in-Some.template.now o
-    (sym c.in-Some.ensures) h)
-    c.config_for_host.ensures.none
+pub returns-in-Ok-clause-made : goal.returns-in-Ok-clause-made
+returns-in-Ok-clause-made g c = record {
+  template = c.in-Some.template.now;
+  chosen = sym c.in-Some.ensures;
+  made = record {
+    fits = fits_where_made (config_fault c.in-Some.template.now.node.host c.args.host.now) c.in-Ok.config
+        c.for_host.result c.in-Ok.is c.for_host.ensures.refuses;
+    peer = c.in-Ok.ensures.peer;
+    node = c.in-Ok.ensures.node;
+    first_id = c.in-Ok.ensures.first_id;
+    dictionary = c.in-Ok.ensures.dictionary ∙ sym c.in-Some.template.now.based;
+    compares = c.in-Ok.ensures.compares;
+  };
+}
