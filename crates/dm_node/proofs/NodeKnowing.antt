@@ -1,7 +1,7 @@
 -- Whom neighbours met, place by place.
 use Rattle.std.proofs.Common.{◌≡◌, ◌<◌, inl, inr, ℕ, zero, suc, Bool, true, false, cond, not, ◌&&◌, ◌==◌, nat_eq, true≢false}
 use Rattle.std.proofs.Common.{Bor}
-use Rattle.std.proofs.Common.{Option, None, Some, IsSome, IfSome, IfNone, is_some, List, [], ◌∷◌, ◌++◌, length, map, option_map}
+use Rattle.std.proofs.Common.{Option, None, Some, IsSome, IfSome, IfNone, is_some, List, [], ◌∷◌, ◌++◌, length, get_or, map, option_map}
 use Rattle.std.proofs.Common.{refl, sym, ap, ◌∙◌, subst, arith}
 use Rattle.std.specs.Prelude.{nat_lt, slice_get}
 use Rattle.std.proofs.Math.ListN.{set}
@@ -39,7 +39,7 @@ use Rattle.dm_node.specs.Neighbourhoods.{IsNeighbourhood}
 use Rattle.dm_node.specs.NodeStates.{NodeState, NodeAnswer, concerned_in}
 use Rattle.dm_node.proofs.Basics.{one_some, two_truths, there_mapped}
 use Rattle.dm_node.proofs.Concerned.{one_is_concerned}
-use Rattle.dm_node.proofs.Newcomers.{peers_stay}
+use Rattle.dm_node.proofs.Newcomers.{AreBehind, octets_behind, event_behind}
 use Rattle.dm_node.proofs.Places.{nobody_behind}
 use Rattle.dm_node.proofs.Taking.{told_set}
 
@@ -97,14 +97,15 @@ placed_behind ps ks i known last =
     ap (λ b. cond b ks (with_nobody ks)) (le-ltb i (length ks) (omega (arith, last, count)))
 
 -- who is there has met somebody or nobody
+some_at : {A : Type 0} (l : List (Option A)) (i : ℕ) →
+    is_some (option_flatten (slice_get l i)) ≡ get_or (map is_some l) i false
+some_at [] i = refl
+some_at (x ∷ xs) zero = refl
+some_at (x ∷ xs) (suc i) = some_at xs i
+
 pub present_at : (ps : List (Option Peer)) (ks : List (Option Acquaintance)) (i : ℕ) → AreKnown ps ks →
     is_some (acquaintance_at ks i) ≡ is_some (peer_at ps i)
-present_at [] [] i known = refl
-present_at [] (k ∷ ks) i known = let count = same_count [] (k ∷ ks) known in absurd (omega (arith, count))
-present_at (p ∷ ps) [] i known = let count = same_count (p ∷ ps) [] known in absurd (omega (arith, count))
-present_at (p ∷ ps) (k ∷ ks) zero known = cc known
-present_at (p ∷ ps) (k ∷ ks) (suc i) known =
-    let behind : map is_some ks ≡ map is_some ps = cc known in present_at ps ks i behind
+present_at ps ks i known = some_at ks i ∙ ap (λ l. get_or l i false) known ∙ sym (some_at ps i)
 
 pub there_copied : (o : Option (Bor Acquaintance)) → is_some (option_copied o) ≡ is_some o
 there_copied None = refl
@@ -155,18 +156,6 @@ record IsBehind (ps qs : List (Option Peer)) (i : ℕ) (state : State) : Type 0 
   is : peer_at qs i ≡ Some after
   begun : state ≡ peer_state (peer_at ps i)
 
-moved_behind : (policy : Policy) (c : Conn) (octets : List ℕ) (n : Node) (ps qs : List (Option Peer)) (i : ℕ)
-    (actions : List Action) (state : State) → IsStateOf (IsAddressed policy ps c octets) ps state →
-    NodeMoves policy c octets n ps (Some i) actions qs → IsBehind ps qs i state
-moved_behind policy c octets n ps qs i actions state looked (inl (concerned, told)) =
-    record { after = told.after; is = told.is; begun = looked.told i concerned }
-moved_behind policy c octets n ps qs i actions state looked (inr (config, permitted, joins)) = record {
-  after = joins.told.after;
-  is = joins.told.is;
-  begun = looked.nobody permitted.unknown.nobody
-      ∙ sym (ap peer_state (ap (peer_at ps) joins.number ∙ nobody_behind ps));
-}
-
 -- The copy of a message.
 
 -- no octets are no CER or CEA
@@ -197,70 +186,36 @@ met_copied octets exchange c before state q is same a =
     ap (λ l. known_if_any l c before q a) is ∙ copied (is_exchange_to before octets) octets c before q a refl
     ∙ ap (λ s. known_at c s q octets a) same
 
--- whom a message met
-pub meets : (policy : Policy) (c : Conn) (octets : List ℕ) (n : Node) (ps qs : List (Option Peer)) (who : Option ℕ)
-    (actions : List Action) (ks js ls : List (Option Acquaintance)) (before : State) (exchange : List ℕ) →
-    IsStateOf (IsAddressed policy ps c octets) ps before → exchange ≡ cond (is_exchange_to before octets) octets [] →
-    js ≡ ks → NodeMoves policy c octets n ps who actions qs →
-    ((i : ℕ) (q : Peer) → who ≡ Some i → peer_at qs i ≡ Some q →
-    ls ≡ with_known i (known_if_any exchange c before q) (given_place i js)) → (who ≡ None → ls ≡ js) →
-    MeetsAny (λ state q a. known_at c state q octets a) who ps qs ks ls
-meets policy c octets n ps qs None actions ks js ls before exchange looked is same moved met unmet = unmet refl ∙ same
-meets policy c octets n ps qs (Some i) actions ks js ls before exchange looked is same moved met unmet =
-    let behind = moved_behind policy c octets n ps qs i actions before looked moved in
-    let q = behind.after in
-    let state = peer_state (peer_at ps i) in
-    let known : (λ a. known_if_any exchange c before q a) ≡ (λ a. known_at c state q octets a) =
-    fun_ext (λ a. met_copied octets exchange c before state q is behind.begun a) in
-    record {
-      after = q;
-      is = behind.is;
-      changed = met i q refl behind.is ∙ ap (λ f. with_known i f (given_place i js)) known
-          ∙ ap (λ l. with_known i (λ a. known_at c state q octets a) (given_place i l)) same;
-    }
+-- and the places are those of the neighbours behind an event
+known_behind : (known : State → Peer → Acquaintance → Acquaintance) (ps qs : List (Option Peer)) (who : Option ℕ)
+    (e : PeerEvent) (actions : List Action) (ks ls : List (Option Acquaintance)) → AreKnown ps ks →
+    AreBehind ps qs who e actions → MeetsAny known who ps qs ks ls → AreKnown qs ls
+known_behind known ps qs None e actions ks ls there stayed same =
+    ap (map is_some) same ∙ there ∙ sym (ap (map is_some) stayed)
+known_behind known ps qs (Some i) e actions ks ls there (inl told) met =
+    let change = known (peer_state (peer_at ps i)) met.after in
+    ap (map is_some) (met.changed ∙ ap (with_known i change) (placed ps ks i told.before there told.was))
+    ∙ same_changed change ks i ∙ there ∙ sym (told_there ps qs i e actions told)
+known_behind known ps qs (Some i) e actions ks ls there (inr (k, here, told)) met =
+    let change = known (peer_state (peer_at ps i)) met.after in
+    ap (map is_some) (met.changed ∙ ap (with_known i change) (placed_behind ps ks i there here))
+    ∙ same_changed change (with_nobody ks) i ∙ known_more ps ks (new_peer k k.first_id) there
+    ∙ sym (told_there (with_new ps k) qs i e actions told)
 
--- and the places are those of the neighbours behind it
 pub known_moved : (known : State → Peer → Acquaintance → Acquaintance) (policy : Policy) (c : Conn) (octets : List ℕ)
     (n : Node) (ps qs : List (Option Peer)) (who : Option ℕ) (actions : List Action)
     (ks ls : List (Option Acquaintance)) → AreKnown ps ks → NodeMoves policy c octets n ps who actions qs →
     MeetsAny known who ps qs ks ls → AreKnown qs ls
-known_moved known policy c octets n ps qs None actions ks ls there moved same =
-    ap (map is_some) same ∙ there ∙ sym (ap (map is_some) (peers_stay policy c octets n ps qs actions moved.1))
-known_moved known policy c octets n ps qs (Some i) actions ks ls there (inl (concerned, told)) met =
-    let change = known (peer_state (peer_at ps i)) met.after in
-    ap (map is_some) (met.changed ∙ ap (with_known i change) (placed ps ks i told.before there told.was))
-    ∙ same_changed change ks i ∙ there ∙ sym (told_there ps qs i (Arrived c octets) actions told)
-known_moved known policy c octets n ps qs (Some i) actions ks ls there (inr (config, permitted, joins)) met =
-    let change = known (peer_state (peer_at ps i)) met.after in
-    ap (map is_some) (met.changed ∙ ap (with_known i change) (placed_behind ps ks i there joins.number))
-    ∙ same_changed change (with_nobody ks) i ∙ known_more ps ks (new_peer config config.first_id) there
-    ∙ sym (told_there (with_new ps config) qs i (Arrived c octets) actions joins.told)
+known_moved known policy c octets n ps qs who actions ks ls there moved met =
+    known_behind known ps qs who (Arrived c octets) actions ks ls there
+    (octets_behind policy c octets n ps qs who actions moved) met
 
--- who calls sends a CER
-called_in : (o : Option Message) (call : Caller) → caller_in o ≡ Some call → is_some (exchange_of o) ≡ true
-called_in None call is = absurd (true≢false (sym (ap is_some is)))
-called_in (Some m) call is =
-    by (nat_eq m.header.command capabilities_exchange) m.header.request
-    (option_map (λ host. (m.header, host)) (calling_host m.avps)) is
-  where
-    by : (b r : Bool) (o : Option Caller) → cond (b && r) o None ≡ Some call → is_some (cond b (Some m) None) ≡ true
-    by true r o e = refl
-    by false r o e = absurd (true≢false (sym (ap is_some e)))
-
--- there is room for a place more where one is taken in
-pub room_for : (policy : Policy) (c : Conn) (octets : List ℕ) (n : Node) (ps qs : List (Option Peer)) (who : Option ℕ)
-    (actions : List Action) (ks : List (Option Acquaintance)) (before : State) (i : ℕ) → AreKnown ps ks →
-    IsStateOf (IsAddressed policy ps c octets) ps before → NodeMoves policy c octets n ps who actions qs →
-    who ≡ Some i → nat_lt i (length ks) ≡ false → is_exchange_to before octets ≡ true
-room_for policy c octets n ps qs None actions ks before i there looked moved is none =
-    absurd (true≢false (sym (ap is_some is)))
-room_for policy c octets n ps qs (Some j) actions ks before i there looked (inl (concerned, told)) is none =
-    absurd (true≢false (sym (has_place ps ks j told.before there told.was)
-    ∙ ap (λ k. nat_lt k (length ks)) (one_some j i is) ∙ none))
-room_for policy c octets n ps qs (Some j) actions ks before i there looked (inr (config, permitted, joins)) is none =
-    let stranger = permitted.unknown in
-    ap (λ s. is_exchange_to s octets) (looked.nobody stranger.nobody)
-    ∙ called_in (message_in octets) stranger.call stranger.calls
+pub known_told : (known : State → Peer → Acquaintance → Acquaintance) (policy : Policy) (e : NodeEvent) (n : Node)
+    (ps qs : List (Option Peer)) (who : Option ℕ) (actions : List Action) (ks ls : List (Option Acquaintance)) →
+    (IsStrangeCer e → ⊥) → AreKnown ps ks → NodeIsTold policy e n ps who actions qs →
+    MeetsAny known who ps qs ks ls → AreKnown qs ls
+known_told known policy e n ps qs who actions ks ls calm there moved met =
+    known_behind known ps qs who (told_of e) actions ks ls there (event_behind policy e n ps qs who actions moved) met
 
 -- what is copied is an exchange, and concerns nobody who is open
 pub is_copied : (policy : Policy) (c : Conn) (octets : List ℕ) (ps : List (Option Peer)) (before : State) →
@@ -285,41 +240,89 @@ stays_at f [] i same = refl
 stays_at f (x ∷ xs) zero same = ap (λ y. y ∷ xs) (mapped_so f x same)
 stays_at f (x ∷ xs) (suc i) same = ap (λ l. x ∷ l) (stays_at f xs i same)
 
-known_so : (before : State) (q : Peer) (a : Acquaintance) → is_open before ≡ true → known_after before q a ≡ a
-known_so before q a stood = ap (λ b. cond (not b && is_open q.standing.core.state) (met_waiting a.waiting a) a) stood
-
 pub open_stays_after : (before : State) (q : Peer) (i : ℕ) (ks : List (Option Acquaintance)) → is_open before ≡ true →
     ks ≡ with_known i (known_after before q) ks
-open_stays_after before q i ks stood = sym (stays_at (known_after before q) ks i (λ a. known_so before q a stood))
+open_stays_after before q i ks stood =
+    sym (stays_at (known_after before q) ks i
+    (λ a. ap (λ b. cond (not b && is_open q.standing.core.state) (met_waiting a.waiting a) a) stood))
 
-open_stays : (c : Conn) (before : State) (q : Peer) (i : ℕ) (ks : List (Option Acquaintance)) →
-    is_open before ≡ true → nat_lt i (length ks) ≡ true →
-    ks ≡ with_known i (known_if_any [] c before q) (given_place i ks)
-open_stays c before q i ks stood there =
-    open_stays_after before q i ks stood
-    ∙ sym (ap (λ b. with_known i (known_after before q) (cond b ks (with_nobody ks))) there)
+-- who calls sends a CER
+called_in : (o : Option Message) (call : Caller) → caller_in o ≡ Some call → is_some (exchange_of o) ≡ true
+called_in None call is = absurd (true≢false (sym (ap is_some is)))
+called_in (Some m) call is =
+    by (nat_eq m.header.command capabilities_exchange) m.header.request
+    (option_map (λ host. (m.header, host)) (calling_host m.avps)) is
+  where
+    by : (b r : Bool) (o : Option Caller) → cond (b && r) o None ≡ Some call → is_some (cond b (Some m) None) ≡ true
+    by true r o e = refl
+    by false r o e = absurd (true≢false (sym (ap is_some e)))
 
--- its place is there
-open_has_place : (policy : Policy) (c : Conn) (octets : List ℕ) (n : Node) (ps qs : List (Option Peer))
-    (who : Option ℕ) (actions : List Action) (ks : List (Option Acquaintance)) (before : State) (i : ℕ) →
-    AreKnown ps ks → IsStateOf (IsAddressed policy ps c octets) ps before →
-    NodeMoves policy c octets n ps who actions qs → who ≡ Some i → is_open before ≡ true → nat_lt i (length ks) ≡ true
-open_has_place policy c octets n ps qs who actions ks before i there looked moved is stood =
-    true_from_ne_false (nat_lt i (length ks)) (λ e.
-    let copied = room_for policy c octets n ps qs who actions ks before i there looked moved is e in
-    two_truths (is_open before) stood
-    (not-true (is_open before) (and_parts (not (is_open before)) (spells_exchange octets) copied).0))
+-- Octets of connection c, told by the policy.
+module _ (policy : Policy) (c : Conn) (octets : List ℕ) (n : Node) (ps qs : List (Option Peer)) where
+  moved_behind : (i : ℕ) (actions : List Action) (state : State) → IsStateOf (IsAddressed policy ps c octets) ps state →
+      NodeMoves policy c octets n ps (Some i) actions qs → IsBehind ps qs i state
+  moved_behind i actions state looked (inl (concerned, told)) =
+      record { after = told.after; is = told.is; begun = looked.told i concerned }
+  moved_behind i actions state looked (inr (config, permitted, joins)) = record {
+    after = joins.told.after;
+    is = joins.told.is;
+    begun = looked.nobody permitted.unknown.nobody
+        ∙ sym (ap peer_state (ap (peer_at ps) joins.number ∙ nobody_behind ps));
+  }
 
--- so what is known stays at what it is told
-pub open_meets : (policy : Policy) (c : Conn) (octets : List ℕ) (n : Node) (ps qs : List (Option Peer))
-    (who : Option ℕ) (actions : List Action) (ks : List (Option Acquaintance)) (before : State) → AreKnown ps ks →
-    IsStateOf (IsAddressed policy ps c octets) ps before → NodeMoves policy c octets n ps who actions qs →
-    is_open before ≡ true → MeetsAny (λ state q a. known_at c state q octets a) who ps qs ks ks
-open_meets policy c octets n ps qs who actions ks before there looked moved stood =
-    meets policy c octets n ps qs who actions ks ks ks before [] looked
-    (sym (ap (λ b. cond (not b && spells_exchange octets) octets []) stood)) refl moved
-    (λ i q is behind. open_stays c before q i ks stood
-    (open_has_place policy c octets n ps qs who actions ks before i there looked moved is stood)) (λ none. refl)
+  -- whom they met
+  pub meets : (who : Option ℕ) (actions : List Action) (ks js ls : List (Option Acquaintance)) (before : State)
+      (exchange : List ℕ) → IsStateOf (IsAddressed policy ps c octets) ps before →
+      exchange ≡ cond (is_exchange_to before octets) octets [] → js ≡ ks →
+      NodeMoves policy c octets n ps who actions qs →
+      ((i : ℕ) (q : Peer) → who ≡ Some i → peer_at qs i ≡ Some q →
+      ls ≡ with_known i (known_if_any exchange c before q) (given_place i js)) → (who ≡ None → ls ≡ js) →
+      MeetsAny (λ state q a. known_at c state q octets a) who ps qs ks ls
+  meets None actions ks js ls before exchange looked is same moved met unmet = unmet refl ∙ same
+  meets (Some i) actions ks js ls before exchange looked is same moved met unmet =
+      let behind = moved_behind i actions before looked moved in
+      let q = behind.after in
+      let state = peer_state (peer_at ps i) in
+      let known : (λ a. known_if_any exchange c before q a) ≡ (λ a. known_at c state q octets a) =
+      fun_ext (λ a. met_copied octets exchange c before state q is behind.begun a) in
+      record {
+        after = q;
+        is = behind.is;
+        changed = met i q refl behind.is ∙ ap (λ f. with_known i f (given_place i js)) known
+            ∙ ap (λ l. with_known i (λ a. known_at c state q octets a) (given_place i l)) same;
+      }
+
+  -- there is room for a place more where one is taken in
+  pub room_for : (who : Option ℕ) (actions : List Action) (ks : List (Option Acquaintance)) (before : State) (i : ℕ) →
+      AreKnown ps ks → IsStateOf (IsAddressed policy ps c octets) ps before →
+      NodeMoves policy c octets n ps who actions qs → who ≡ Some i → nat_lt i (length ks) ≡ false →
+      is_exchange_to before octets ≡ true
+  room_for None actions ks before i there looked moved is none = absurd (true≢false (sym (ap is_some is)))
+  room_for (Some j) actions ks before i there looked (inl (concerned, told)) is none =
+      absurd (true≢false (sym (has_place ps ks j told.before there told.was)
+      ∙ ap (λ k. nat_lt k (length ks)) (one_some j i is) ∙ none))
+  room_for (Some j) actions ks before i there looked (inr (config, permitted, joins)) is none =
+      let stranger = permitted.unknown in
+      ap (λ s. is_exchange_to s octets) (looked.nobody stranger.nobody)
+      ∙ called_in (message_in octets) stranger.call stranger.calls
+
+  -- where it is open that they are told, what is known of it stays
+  pub open_meets : (who : Option ℕ) (actions : List Action) (ks : List (Option Acquaintance)) (before : State) →
+      AreKnown ps ks → IsStateOf (IsAddressed policy ps c octets) ps before →
+      NodeMoves policy c octets n ps who actions qs → is_open before ≡ true →
+      MeetsAny (λ state q a. known_at c state q octets a) who ps qs ks ks
+  open_meets who actions ks before there looked moved stood =
+      meets who actions ks ks ks before [] looked
+      (sym (ap (λ b. cond (not b && spells_exchange octets) octets []) stood)) refl moved
+      (λ i q is behind. open_stays_after before q i ks stood
+      ∙ sym (ap (λ b. with_known i (known_after before q) (cond b ks (with_nobody ks))) (place i is))) (λ none. refl)
+    where
+      place : (i : ℕ) → who ≡ Some i → nat_lt i (length ks) ≡ true
+      place i is =
+          true_from_ne_false (nat_lt i (length ks)) (λ e.
+          let copied = room_for who actions ks before i there looked moved is e in
+          two_truths (is_open before) stood
+          (not-true (is_open before) (and_parts (not (is_open before)) (spells_exchange octets) copied).0))
 
 -- no octets are nobody's CER
 calls_none : caller_of [] ≡ None
@@ -341,8 +344,7 @@ told_event policy e n ps qs i actions calm told = told
 
 pub untold_event : (policy : Policy) (e : NodeEvent) (n : Node) (ps qs : List (Option Peer)) (actions : List Action) →
     NodeIsTold policy e n ps None actions qs → qs ≡ ps
-untold_event policy (event.Arrived c octets) n ps qs actions m = peers_stay policy c octets.now n ps qs actions m.1
-untold_event policy e n ps qs actions m = m.2
+untold_event policy e n ps qs actions m = event_behind policy e n ps qs None actions m
 
 -- whom such an event met
 pub meets_after : (policy : Policy) (e : NodeEvent) (n : Node) (ps qs : List (Option Peer)) (who : Option ℕ)
@@ -363,32 +365,15 @@ meets_after policy e n ps qs (Some i) actions ks ls before calm looked there mov
           (placed ps ks i told.1.before there told.1.was));
     }
 
-pub known_told : (known : State → Peer → Acquaintance → Acquaintance) (policy : Policy) (e : NodeEvent) (n : Node)
-    (ps qs : List (Option Peer)) (who : Option ℕ) (actions : List Action) (ks ls : List (Option Acquaintance)) →
-    (IsStrangeCer e → ⊥) → AreKnown ps ks → NodeIsTold policy e n ps who actions qs →
-    MeetsAny known who ps qs ks ls → AreKnown qs ls
-known_told known policy e n ps qs None actions ks ls calm there moved same =
-    ap (map is_some) same ∙ there ∙ sym (ap (map is_some) (untold_event policy e n ps qs actions moved))
-known_told known policy e n ps qs (Some i) actions ks ls calm there moved met =
-    let told = told_event policy e n ps qs i actions calm moved in
-    let change = known (peer_state (peer_at ps i)) met.after in
-    ap (map is_some) (met.changed ∙ ap (with_known i change) (placed ps ks i told.1.before there told.1.was))
-    ∙ same_changed change ks i ∙ there ∙ sym (told_there ps qs i (told_of e) actions told.1)
-
 -- What is done behind it.
 
--- whom it met stays known where the neighbours stay
-pub met_settled : (known : State → Peer → Acquaintance → Acquaintance) (who : Option ℕ)
-    (ps qs rs : List (Option Peer)) (ks ls js : List (Option Acquaintance)) → rs ≡ qs → js ≡ ls →
-    MeetsAny known who ps qs ks ls → MeetsAny known who ps rs ks js
-met_settled known who ps qs rs ks ls js same is met =
-    subst (λ l. MeetsAny known who ps rs ks l) (sym is) (subst (λ l. MeetsAny known who ps l ks ls) (sym same) met)
-
+-- whom it met stays known where the neighbours stay behind it
 pub after_moved : (asks : Option NodeAnswer) (s m t : NodeState) (ks ls js : List (Option Acquaintance)) →
     t.peers ≡ m.peers → js ≡ ls → KnownAfterOrder asks s m ks ls → KnownAfterOrder asks s t ks js
 after_moved None s m t ks ls js same is met = is ∙ met
 after_moved (Some answer) s m t ks ls js same is met =
-    met_settled known_after answer.neighbour s.peers m.peers t.peers ks ls js same is met
+    subst (λ l. MeetsAny known_after answer.neighbour s.peers t.peers ks l) (sym is)
+    (subst (λ l. MeetsAny known_after answer.neighbour s.peers l ks ls) (sym same) met)
 
 -- and where they stayed before it
 pub after_opened : (asks : Option NodeAnswer) (s o t : NodeState) (ks js ls : List (Option Acquaintance)) →

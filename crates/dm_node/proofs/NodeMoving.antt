@@ -1,5 +1,6 @@
 -- One neighbour is told an event: what is held behind it, what it closes, and who is kept.
-use Rattle.std.proofs.Common.{◌≡◌, inl, inr, ℕ, Bool, true, false, nat_eq, ◌||◌, true≢false, Option, None, Some, List, refl, sym, ap, ◌∙◌, subst}
+use Rattle.std.proofs.Common.{◌≡◌, inl, inr, ℕ, Bool, true, false, nat_eq, Option, None, Some, List, refl, sym, ap, ◌∙◌, subst}
+use Rattle.std.proofs.Math.Bool.{or-false}
 use Rattle.std.proofs.lemmas.Bool.{eqb-true, false_from_ne_true}
 use Rattle.dm_base.specs.declared.node.Node.{Node}
 use Rattle.dm_machine.specs.declared.connection.Conn.{Conn}
@@ -10,7 +11,7 @@ use Rattle.dm_node.specs.Telling.{IsAddressed, PeerIsTold, IsFree}
 use Rattle.dm_peer.specs.declared.actions.Action.{Action}
 use Rattle.dm_peer.specs.declared.peer.Peer.{Peer}
 use Rattle.dm_peer.specs.Events.{PeerEvent, Arrived}
-use Rattle.dm_peer.specs.Holding.{holds, names_conn, OthersStayUnheld, ClosedIsUnheld}
+use Rattle.dm_peer.specs.Holding.{holds, names_conn, ClosedIsUnheld}
 use Rattle.dm_peer.specs.Kept.{IsKept}
 use Rattle.dm_slots.specs.Intakes.{Intakes, is_there, actions_close}
 use Rattle.dm_slots.specs.Naming.{NamesThere}
@@ -20,18 +21,18 @@ use Rattle.dm_node.proofs.Closing.{CameOn, ClosesItsOwn, closes_as}
 use Rattle.dm_node.proofs.Taking.{told_cases}
 
 -- what is held behind it is there
-pub held_told : OthersStayUnheld → (ps qs : List (Option Peer)) (i : ℕ) (e : PeerEvent) (actions : List Action)
-    (f : Intakes) → AreKept ps → PeerIsTold ps qs i e actions → AllHeldAreThere ps f → NamesThere e f → AllHeldAreThere qs f
-held_told others ps qs i e actions f kept told there named j c held =
+pub held_told : (ps qs : List (Option Peer)) (i : ℕ) (e : PeerEvent) (actions : List Action) (f : Intakes)
+    (told : PeerIsTold ps qs i e actions) →
+    ((c : Conn) → holds c told.before ≡ false → names_conn e c ≡ false → holds c told.after ≡ false) →
+    AllHeldAreThere ps f → NamesThere e f → AllHeldAreThere qs f
+held_told ps qs i e actions f told others there named j c held =
     told_cases (λ o. holds_it c o ≡ true → is_there c.0 f ≡ true) ps qs i j e actions told
     (λ s now. at now (holds c told.before) (names_conn e c) refl refl) (λ un. there j c) held
   where
     at : holds c told.after ≡ true → (b n : Bool) → holds c told.before ≡ b → names_conn e c ≡ n → is_there c.0 f ≡ true
     at now true n before names = there i c (ap (holds_it c) told.was ∙ before)
     at now false true before names = named c names
-    at now false false before names =
-        absurd (two_truths (holds c told.after) now
-        (others told.before told.after e actions c (kept i told.before told.was) told.acts before names))
+    at now false false before names = absurd (two_truths (holds c told.after) now (others c before names))
 
 -- nobody else holds a connection on which the event brings octets
 abbrev pub IsHolderOf : List (Option Peer) → PeerEvent → ℕ → Type 0
@@ -68,12 +69,11 @@ closed_told closed own ps qs i e actions kept apart alone told c closing j =
     ]
 
 -- what a stranger's answer closes is his connection
-pub closed_answer : (n : Node) (d : Conn) (call : Option Caller) (c : Conn) → actions_close (answer_to n d call) c.0 ≡ true → d ≡ c
-closed_answer n d None c is = by (nat_eq d.0 c.0) refl is where
-  by : (b : Bool) → nat_eq d.0 c.0 ≡ b → (b || false) ≡ true → d ≡ c
-  by true e h = ap (λ m. record { 0 = m }) (eqb-true d.0 c.0 e)
-  by false e h = absurd (true≢false (sym h))
-closed_answer n d (Some call) c is = by (nat_eq d.0 c.0) refl is where
-  by : (b : Bool) → nat_eq d.0 c.0 ≡ b → (b || false) ≡ true → d ≡ c
-  by true e h = ap (λ m. record { 0 = m }) (eqb-true d.0 c.0 e)
-  by false e h = absurd (true≢false (sym h))
+answer_closes : (n : Node) (d : Conn) (call : Option Caller) (c : Conn) →
+    actions_close (answer_to n d call) c.0 ≡ nat_eq d.0 c.0
+answer_closes n d None c = or-false (nat_eq d.0 c.0)
+answer_closes n d (Some call) c = or-false (nat_eq d.0 c.0)
+
+pub closed_answer : (n : Node) (d : Conn) (call : Option Caller) (c : Conn) → actions_close (answer_to n d call) c.0 ≡ true →
+    d ≡ c
+closed_answer n d call c is = ap (λ m. record { 0 = m }) (eqb-true d.0 c.0 (sym (answer_closes n d call c) ∙ is))

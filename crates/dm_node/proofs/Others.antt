@@ -3,6 +3,7 @@ use Rattle.std.proofs.Common.{◌≡◌, inl, inr, ℕ, Bool, true, false, cond,
 use Rattle.std.proofs.lemmas.Bool.{cond-false, false_from_ne_true}
 use Rattle.std.specs.Option.{option_map}
 use Rattle.dm_base.specs.declared.node.Node.{Node}
+use Rattle.dm_history.specs.History.{new_peer}
 use Rattle.dm_machine.specs.declared.connection.Conn.{Conn}
 use Rattle.dm_machine.specs.declared.phase.Role.{Role}
 use Rattle.dm_machine.specs.declared.phase.Role.TheVariants.{Initiated, Accepted}
@@ -14,10 +15,11 @@ use Rattle.dm_machine.specs.Node.{is_same_role, held_as}
 use Rattle.dm_node.specs.declared.events.NodeEvent.{NodeEvent}
 use Rattle.dm_node.specs.Holding.{peer_at, holds_it, holds_at, AreApart}
 use Rattle.dm_node.specs.Policies.{Policy, no_strangers}
-use Rattle.dm_node.specs.Strangers.{NodeMoves, TellsConcerned, NodeIsTold}
-use Rattle.dm_node.specs.Telling.{IsFree}
+use Rattle.dm_node.specs.Strangers.{NodeMoves}
+use Rattle.dm_node.specs.Telling.{IsFree, told_of}
 use Rattle.dm_peer.specs.declared.actions.Action.{Action}
 use Rattle.dm_peer.specs.declared.peer.Peer.{Peer}
+use Rattle.dm_peer.specs.Events.{PeerEvent, Arrived}
 use Rattle.dm_peer.specs.Holding.{is_held, holds, ClosedIsUnheld}
 use Rattle.dm_slots.specs.Intakes.{Intake, Intakes, is_conn_number, with_intake, with_max, actions_close, left_by, raised_at}
 use Rattle.dm_slots.specs.Raised.{own_of, other_of}
@@ -25,10 +27,11 @@ use Rattle.dm_slots.specs.Staying.{ClosingKeeps}
 use Rattle.dm_node.specs.NodeLaws.{AreSoundNeighbours, IsLeftAlone}
 use Rattle.dm_node.specs.NodeStates.{NodeState, NodeAnswer, NodeTells, NodeTellsOctets, NodeTellsAs, concerned_in, raised_for, node_settled, with_node_intakes}
 use Rattle.dm_node.proofs.Closing.{ClosesItsOwn}
-use Rattle.dm_node.proofs.Newcomers.{PeerLaws, peers_stay, else_at, closed_octets}
+use Rattle.dm_node.proofs.Newcomers.{PeerLaws, AreBehind, octets_behind, event_behind, closed_octets}
+use Rattle.dm_node.proofs.Places.{grown_else}
 use Rattle.dm_node.proofs.Basics.{two_truths}
 use Rattle.dm_node.proofs.NodeStaying.{by_number}
-use Rattle.dm_node.proofs.NodeTold.{by_event, closed_moved}
+use Rattle.dm_node.proofs.NodeTold.{closed_moved}
 
 -- a connection in a role is held
 pub as_is_held : (s : State) (role : Role) → is_held (hold_as s role) ≡ true
@@ -74,39 +77,19 @@ raised_elsewhere most (Some p) f c free = by (is_open p.standing.core.state)
     by false = refl
 
 -- whoever isn't told stays
-same_plain : (policy : Policy) (e : NodeEvent) (ps qs : List (Option Peer)) (who : Option ℕ) (actions : List Action)
-    (j : ℕ) → TellsConcerned policy e ps who actions qs → (who ≡ Some j → ⊥) → peer_at qs j ≡ peer_at ps j
-same_plain policy e ps qs (Some i) actions j m un = m.1.others j (λ is. un (ap Some (sym is)))
-same_plain policy e ps qs None actions j m un = ap (λ l. peer_at l j) m.2
-
-same_octets : (policy : Policy) (c : Conn) (octets : List ℕ) (n : Node) (ps qs : List (Option Peer)) (who : Option ℕ)
-    (actions : List Action) (j : ℕ) → NodeMoves policy c octets n ps who actions qs → (who ≡ Some j → ⊥) →
-    peer_at qs j ≡ peer_at ps j
-same_octets policy c octets n ps qs (Some i) actions j (inl m) un = m.1.others j (λ is. un (ap Some (sym is)))
-same_octets policy c octets n ps qs (Some i) actions j (inr (k, permitted, joins)) un =
-    else_at ps qs i j c octets actions k joins (λ is. un (ap Some (sym is)))
-same_octets policy c octets n ps qs None actions j m un =
-    ap (λ l. peer_at l j) (peers_stay policy c octets n ps qs actions m.1)
-
-same_peer : (policy : Policy) (e : NodeEvent) (n : Node) (ps qs : List (Option Peer)) (who : Option ℕ)
-    (actions : List Action) (j : ℕ) → NodeIsTold policy e n ps who actions qs → (who ≡ Some j → ⊥) →
-    peer_at qs j ≡ peer_at ps j
-same_peer policy e n ps qs who actions j m un =
-    elim (by_event policy e n ps qs who actions m) [
-      | inl came ↦ same_octets policy came.0 came.1 n ps qs who actions j came.3 un
-      | inr plain ↦ same_plain policy e ps qs who actions j plain.1 un
-    ]
+same_peer : (ps qs : List (Option Peer)) (who : Option ℕ) (e : PeerEvent) (actions : List Action) (j : ℕ) →
+    AreBehind ps qs who e actions → (who ≡ Some j → ⊥) → peer_at qs j ≡ peer_at ps j
+same_peer ps qs None e actions j same un = ap (λ l. peer_at l j) same
+same_peer ps qs (Some i) e actions j (inl told) un = told.others j (λ is. un (ap Some (sym is)))
+same_peer ps qs (Some i) e actions j (inr (k, here, told)) un =
+    told.others j (λ is. un (ap Some (sym is)))
+    ∙ grown_else ps (Some (new_peer k k.first_id)) j (λ last. un (ap Some (here ∙ sym last)))
 
 not_his : (qs : List (Option Peer)) (who : Option ℕ) (j : ℕ) (c : Conn) → AreApart qs → (who ≡ Some j → ⊥) →
     holds_at qs c j ≡ true → holds_it c (concerned_in qs who) ≡ false
 not_his qs None j c apart un held = refl
 not_his qs (Some i) j c apart un held =
     false_from_ne_true (holds_at qs c i) (λ own. un (ap Some (apart.one i j c own held)))
-
-not_closed : (actions : List Action) (qs : List (Option Peer)) (j : ℕ) (c : Conn) →
-    (actions_close actions c.0 ≡ true → holds_at qs c j ≡ false) → holds_at qs c j ≡ true → actions_close actions c.0 ≡ false
-not_closed actions qs j c free held =
-    false_from_ne_true (actions_close actions c.0) (λ e. two_truths (holds_at qs c j) held (free e))
 
 -- what is settled leaves alone whoever stays
 settled_leaves : ClosingKeeps → (s t : NodeState) (answer : NodeAnswer) (qs : List (Option Peer)) (j : ℕ) →
@@ -119,20 +102,12 @@ settled_leaves keeps s t answer qs j left apart same closed un = record {
       ap (λ (v : NodeState). v.intakes c.0) left
       ∙ raised_elsewhere s.most (concerned_in qs answer.neighbour) (left_by answer.actions s.intakes) c
       (not_his qs answer.neighbour j c there un now)
-      ∙ keeps answer.actions c.0 s.intakes (not_closed answer.actions qs j c (λ is. closed c is j) now);
+      ∙ keeps answer.actions c.0 s.intakes
+      (false_from_ne_true (actions_close answer.actions c.0) (λ is. two_truths (holds_at qs c j) now (closed c is j)));
 }
   where
     there : AreApart qs
     there = subst (λ (v : NodeState). AreApart v.peers) left apart
-
-pub event_leaves_others : ClosedIsUnheld → ClosesItsOwn → PeerLaws → ClosingKeeps → (e : NodeEvent)
-    (s t : NodeState) (answer : NodeAnswer) (j : ℕ) → AreSoundNeighbours s.peers → AreApart t.peers →
-    NodeTells e s answer t → (answer.neighbour ≡ Some j → ⊥) → IsLeftAlone j s t
-event_leaves_others closed own laws keeps e s t answer j sound apart tells un =
-    settled_leaves keeps s t answer tells.peers j tells.left apart
-    (same_peer no_strangers e s.node s.peers tells.peers answer.neighbour answer.actions j tells.moved un)
-    (closed_moved closed own laws no_strangers e s.node s.peers tells.peers answer.neighbour answer.actions sound.kept
-    sound.neighbourhood.apart tells.moved) un
 
 -- whoever holds the connection on which octets come is told them
 holder_is_told : (policy : Policy) (n : Node) (ps qs : List (Option Peer)) (who : Option ℕ) (actions : List Action)
@@ -146,10 +121,6 @@ holder_is_told policy n ps qs (Some i) actions j c octets apart (inr (k, permitt
     permitted.unknown.nobody j (inl held)
 holder_is_told policy n ps qs None actions j c octets apart m un held = m.0 j (inl held)
 
-elsewhere : (c d : Conn) (i : Intake) (f : Intakes) → (d ≡ c → ⊥) → with_intake c.0 (Some i) f d.0 ≡ f d.0
-elsewhere c d i f un =
-    cond-false (nat_eq c.0 d.0) (Some i) (f d.0) (false_from_ne_true (nat_eq c.0 d.0) (λ e. un (by_number c d e)))
-
 -- what was taken of one connection is nothing of another
 taken_elsewhere : (c : Conn) (i : Intake) (s t : NodeState) (j : ℕ) → (holds_at s.peers c j ≡ true → ⊥) →
     IsLeftAlone j (with_node_intakes (with_intake c.0 (Some i) s.intakes) s) t → IsLeftAlone j s t
@@ -157,28 +128,41 @@ taken_elsewhere c i s t j un alone = record {
   peer = alone.peer;
   came = λ d held.
       alone.came d held
-      ∙ elsewhere c d i s.intakes (λ same. un (subst (λ x. holds_at s.peers x j ≡ true) same held));
+      ∙ cond-false (nat_eq c.0 d.0) (Some i) (s.intakes d.0)
+      (false_from_ne_true (nat_eq c.0 d.0)
+      (λ e. un (subst (λ x. holds_at s.peers x j ≡ true) (by_number c d e) held)));
 }
 
-octets_leave_others : ClosedIsUnheld → ClosesItsOwn → PeerLaws → ClosingKeeps → (policy : Policy) (c : Conn)
-    (octets : List ℕ) (i : Intake) (s t : NodeState) (answer : NodeAnswer) (j : ℕ) → AreSoundNeighbours s.peers →
-    AreApart t.peers →
-    NodeTellsOctets policy c octets (with_node_intakes (with_intake c.0 (Some i) s.intakes) s) answer t →
-    (answer.neighbour ≡ Some j → ⊥) → IsLeftAlone j s t
-octets_leave_others closed own laws keeps policy c octets i s t answer j sound apart tells un =
-    taken_elsewhere c i s t j
-    (holder_is_told policy s.node s.peers tells.peers answer.neighbour answer.actions j c octets
-    sound.neighbourhood.apart tells.moved un)
-    (settled_leaves keeps (with_node_intakes (with_intake c.0 (Some i) s.intakes) s) t answer tells.peers j tells.left
-    apart (same_octets policy c octets s.node s.peers tells.peers answer.neighbour answer.actions j tells.moved un)
-    (closed_octets closed own laws policy c octets s.node s.peers tells.peers answer.neighbour answer.actions sound.kept
-    sound.neighbourhood.apart tells.moved) un)
+module _ (closed : ClosedIsUnheld) (own : ClosesItsOwn) (laws : PeerLaws) (keeps : ClosingKeeps) where
+  pub event_leaves_others : (e : NodeEvent) (s t : NodeState) (answer : NodeAnswer) (j : ℕ) →
+      AreSoundNeighbours s.peers → AreApart t.peers → NodeTells e s answer t → (answer.neighbour ≡ Some j → ⊥) →
+      IsLeftAlone j s t
+  event_leaves_others e s t answer j sound apart tells un =
+      settled_leaves keeps s t answer tells.peers j tells.left apart
+      (same_peer s.peers tells.peers answer.neighbour (told_of e) answer.actions j
+      (event_behind no_strangers e s.node s.peers tells.peers answer.neighbour answer.actions tells.moved) un)
+      (closed_moved closed own laws no_strangers e s.node s.peers tells.peers answer.neighbour answer.actions sound.kept
+      sound.neighbourhood.apart tells.moved) un
 
-pub next_leaves_others : ClosedIsUnheld → ClosesItsOwn → PeerLaws → ClosingKeeps → (policy : Policy)
-    (arrived : Option Conn) (c : Conn) (s t : NodeState) (answer : NodeAnswer) (j : ℕ) →
-    AreSoundNeighbours s.peers → AreApart t.peers → NodeTellsAs policy arrived c s answer t →
-    (answer.neighbour ≡ Some j → ⊥) → IsLeftAlone j s t
-next_leaves_others closed own laws keeps policy None c s t answer j sound apart h un =
-    octets_leave_others closed own laws keeps policy c [] _ s t answer j sound apart h.told un
-next_leaves_others closed own laws keeps policy (Some d) c s t answer j sound apart h un =
-    octets_leave_others closed own laws keeps policy c h.1.message _ s t answer j sound apart h.1.told un
+  octets_leave_others : (policy : Policy) (c : Conn) (octets : List ℕ) (i : Intake) (s t : NodeState)
+      (answer : NodeAnswer) (j : ℕ) → AreSoundNeighbours s.peers → AreApart t.peers →
+      NodeTellsOctets policy c octets (with_node_intakes (with_intake c.0 (Some i) s.intakes) s) answer t →
+      (answer.neighbour ≡ Some j → ⊥) → IsLeftAlone j s t
+  octets_leave_others policy c octets i s t answer j sound apart tells un =
+      taken_elsewhere c i s t j
+      (holder_is_told policy s.node s.peers tells.peers answer.neighbour answer.actions j c octets
+      sound.neighbourhood.apart tells.moved un)
+      (settled_leaves keeps (with_node_intakes (with_intake c.0 (Some i) s.intakes) s) t answer tells.peers j tells.left
+      apart
+      (same_peer s.peers tells.peers answer.neighbour (Arrived c octets) answer.actions j
+      (octets_behind policy c octets s.node s.peers tells.peers answer.neighbour answer.actions tells.moved) un)
+      (closed_octets laws policy c octets s.node s.peers tells.peers answer.actions closed own answer.neighbour sound.kept
+      sound.neighbourhood.apart tells.moved) un)
+
+  pub next_leaves_others : (policy : Policy) (arrived : Option Conn) (c : Conn) (s t : NodeState) (answer : NodeAnswer)
+      (j : ℕ) → AreSoundNeighbours s.peers → AreApart t.peers → NodeTellsAs policy arrived c s answer t →
+      (answer.neighbour ≡ Some j → ⊥) → IsLeftAlone j s t
+  next_leaves_others policy None c s t answer j sound apart h un =
+      octets_leave_others policy c [] _ s t answer j sound apart h.told un
+  next_leaves_others policy (Some d) c s t answer j sound apart h un =
+      octets_leave_others policy c h.1.message _ s t answer j sound apart h.1.told un

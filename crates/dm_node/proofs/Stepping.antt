@@ -1,9 +1,7 @@
 -- Each call of a node is a step of its history, or two where a host is taken in.
 use Rattle.std.proofs.Common.{◌≡◌, inl, inr, ℕ, Bool, true, false, cond, is_some, Option, None, Some, List, [], ◌∷◌, ◌++◌, refl, sym, ap, ◌∙◌, subst}
-use Rattle.dm_base.specs.declared.node.Node.{Node}
 use Rattle.dm_machine.specs.declared.connection.Conn.{Conn}
 use Rattle.dm_peer.specs.declared.actions.Action.{Action}
-use Rattle.dm_peer.specs.declared.config.Config.{Config}
 use Rattle.dm_peer.specs.declared.peer.Peer.{Peer}
 use Rattle.dm_peer.specs.Events.{PeerEvent, Arrived}
 use Rattle.dm_node.specs.Adding.{with_new}
@@ -13,73 +11,39 @@ use Rattle.dm_node.specs.NodeOrders.{NodeTellsOnce, NodeTellsNothing, node_opene
 use Rattle.dm_node.specs.NodeStates.{NodeState, NodeAnswer, NodeTells, NodeTellsOctets, NodeTellsAs}
 use Rattle.dm_node.specs.NodeSteps.{LeadTo, told_steps, asked_steps, OrderIsSteps, IsOneEvent, TurnIsSteps, AddingIsAStep, RemovingIsAStep}
 use Rattle.dm_node.specs.Policies.{Policy, no_strangers}
-use Rattle.dm_node.specs.Strangers.{Joins, NodeMoves, TellsConcerned, NodeIsTold}
-use Rattle.dm_node.specs.Telling.{PeerIsTold, told_of}
+use Rattle.dm_node.specs.Telling.{told_of}
 use Rattle.dm_node.specs.declared.events.NodeEvent.{NodeEvent}
 use Rattle.dm_node.specs.declared.events.NodeEvent.TheVariants as event
 use Rattle.dm_node.specs.declared.order.Order.TheVariants as order
 use Rattle.dm_slots.specs.Intakes.{is_there}
-use Rattle.dm_node.proofs.Newcomers.{peers_stay}
+use Rattle.dm_node.proofs.Newcomers.{AreBehind, octets_behind, event_behind}
 use Rattle.dm_node.proofs.NodeKnowing.{unheld_peers}
-use Rattle.dm_node.proofs.NodeTold.{by_event}
 use Rattle.dm_node.proofs.Places.{nobody_behind}
 
--- who was there was told it
-one_told : (ps qs : List (Option Peer)) (i : ℕ) (e : PeerEvent) (actions : List Action) → PeerIsTold ps qs i e actions →
-    LeadTo (told_steps ps (Some i) e actions) ps qs
-one_told ps qs i e actions t past before =
+-- nobody was told it; or who was there was, or who was added before
+leads : (ps qs : List (Option Peer)) (who : Option ℕ) (e : PeerEvent) (actions : List Action) →
+    AreBehind ps qs who e actions → LeadTo (told_steps ps who e actions) ps qs
+leads ps qs None e actions same past before =
+    subst (λ l. NodeBecame (MovedNobody ∷ past) l) (sym same) (unmoved past ps before)
+leads ps qs (Some i) e actions (inl t) past before =
     let one = WasTold i e actions ∷ [] in
     let two = WasTold i e actions ∷ WasAdded i ∷ [] in
     subst (λ b. NodeBecame (cond b one two ++ past) qs) (sym (ap is_some t.was)) (told past ps qs i e actions before t)
-
--- nobody was
-none_told : (ps qs : List (Option Peer)) (e : PeerEvent) (actions : List Action) → qs ≡ ps →
-    LeadTo (told_steps ps None e actions) ps qs
-none_told ps qs e actions same past before =
-    subst (λ l. NodeBecame (MovedNobody ∷ past) l) (sym same) (unmoved past ps before)
-
--- who wasn't was added before
-one_joined : (ps qs : List (Option Peer)) (i : ℕ) (c : Conn) (octets : List ℕ) (actions : List Action) (config : Config) →
-    Joins ps qs i c octets actions config → LeadTo (told_steps ps (Some i) (Arrived c octets) actions) ps qs
-one_joined ps qs i c octets actions config joins past before =
-    let e = Arrived c octets in
+leads ps qs (Some i) e actions (inr (k, here, t)) past before =
     let one = WasTold i e actions ∷ [] in
     let two = WasTold i e actions ∷ WasAdded i ∷ [] in
-    let none : peer_at ps i ≡ None = ap (peer_at ps) joins.number ∙ nobody_behind ps in
-    let more : NodeBecame (WasAdded i ∷ past) (with_new ps config) =
-    subst (λ j. NodeBecame (WasAdded j ∷ past) (with_new ps config)) (sym joins.number) (added past ps config before) in
+    let none : peer_at ps i ≡ None = ap (peer_at ps) here ∙ nobody_behind ps in
+    let more : NodeBecame (WasAdded i ∷ past) (with_new ps k) =
+    subst (λ j. NodeBecame (WasAdded j ∷ past) (with_new ps k)) (sym here) (added past ps k before) in
     subst (λ b. NodeBecame (cond b one two ++ past) qs) (sym (ap is_some none))
-    (told (WasAdded i ∷ past) (with_new ps config) qs i e actions more joins.told)
-
-moved : (policy : Policy) (c : Conn) (octets : List ℕ) (n : Node) (ps qs : List (Option Peer)) (who : Option ℕ)
-    (actions : List Action) → NodeMoves policy c octets n ps who actions qs →
-    LeadTo (told_steps ps who (Arrived c octets) actions) ps qs
-moved policy c octets n ps qs (Some i) actions (inl (concerned, t)) = one_told ps qs i (Arrived c octets) actions t
-moved policy c octets n ps qs (Some i) actions (inr (config, permitted, joins)) = one_joined ps qs i c octets actions config joins
-moved policy c octets n ps qs None actions m =
-    none_told ps qs (Arrived c octets) actions (peers_stay policy c octets n ps qs actions m.1)
-
-plain : (policy : Policy) (e : NodeEvent) (ps qs : List (Option Peer)) (who : Option ℕ) (actions : List Action) →
-    TellsConcerned policy e ps who actions qs → LeadTo (told_steps ps who (told_of e) actions) ps qs
-plain policy e ps qs (Some i) actions m = one_told ps qs i (told_of e) actions m.1
-plain policy e ps qs None actions m = none_told ps qs (told_of e) actions m.2
-
-event_leads : (policy : Policy) (e : NodeEvent) (n : Node) (ps qs : List (Option Peer)) (who : Option ℕ)
-    (actions : List Action) → NodeIsTold policy e n ps who actions qs →
-    LeadTo (told_steps ps who (told_of e) actions) ps qs
-event_leads policy e n ps qs who actions m =
-    elim (by_event policy e n ps qs who actions m) [
-      | inl came ↦
-          subst (λ x. LeadTo (told_steps ps who x actions) ps qs) (sym came.2)
-          (moved policy came.0 came.1 n ps qs who actions came.3)
-      | inr h ↦ plain policy e ps qs who actions h.1
-    ]
+    (told (WasAdded i ∷ past) (with_new ps k) qs i e actions more t)
 
 tells : (e : NodeEvent) (s : NodeState) (answer : NodeAnswer) (t : NodeState) → NodeTells e s answer t →
     LeadTo (asked_steps (Some e) s (Some answer)) s.peers t.peers
 tells e s answer t h =
     subst (λ l. LeadTo (asked_steps (Some e) s (Some answer)) s.peers l) (sym (ap (λ (v : NodeState). v.peers) h.left))
-    (event_leads no_strangers e s.node s.peers h.peers answer.neighbour answer.actions h.moved)
+    (leads s.peers h.peers answer.neighbour (told_of e) answer.actions
+    (event_behind no_strangers e s.node s.peers h.peers answer.neighbour answer.actions h.moved))
 
 -- an order's event, told or not
 once : (e : NodeEvent) (s t : NodeState) (asks : Option NodeAnswer) → NodeTellsOnce e s asks t →
@@ -138,7 +102,8 @@ octets_lead : (policy : Policy) (c : Conn) (octets : List ℕ) (s : NodeState) (
 octets_lead policy c octets s answer t h =
     let steps = told_steps s.peers answer.neighbour (Arrived c octets) answer.actions in
     subst (LeadTo steps s.peers) (sym (ap (λ (v : NodeState). v.peers) h.left))
-    (moved policy c octets s.node s.peers h.peers answer.neighbour answer.actions h.moved)
+    (leads s.peers h.peers answer.neighbour (Arrived c octets) answer.actions
+    (octets_behind policy c octets s.node s.peers h.peers answer.neighbour answer.actions h.moved))
 
 by_kind : (policy : Policy) (arrived : Option Conn) (c : Conn) (s : NodeState) (answer : NodeAnswer) (t : NodeState) →
     NodeTellsAs policy arrived c s answer t → IsOneEvent c s answer t

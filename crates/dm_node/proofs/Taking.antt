@@ -1,7 +1,7 @@
 -- A peer takes no connection but the one that its event names.
-use Rattle.std.proofs.Common.{◌≡◌, ℕ, Bool, true, false, not, ◌&&◌, ◌==◌, List, [], Option, Some, IsSome, IsTrue, Result, Ok, Err, IfOk, IfErr, OnOk, OnErr, refl, sym, ap, subst, ◌∙◌, inl, inr, ◌⊎◌}
+use Rattle.std.proofs.Common.{◌≡◌, ℕ, Bool, true, false, not, ◌&&◌, ◌==◌, List, [], Option, Some, IsSome, IsTrue, Result, Ok, Err, IfErr, OnOk, OnErr, refl, sym, ap, subst, ◌∙◌, inl, inr, ◌⊎◌}
 use Rattle.std.proofs.Math.ListN.{set}
-use Rattle.std.proofs.lemmas.Bool.{eqb-true, false_from_ne_true, cases_eq}
+use Rattle.std.proofs.lemmas.Bool.{eqb-true, false_from_ne_true, true_from_ne_false, true≢false, cases_eq}
 use Rattle.std.proofs.lemmas.List.{length-set}
 use Rattle.dm_base.specs.Before.{lower}
 use Rattle.dm_peer.specs.declared.config.Config.{Config}
@@ -20,22 +20,30 @@ use Rattle.dm_peer.specs.Said.{Heard}
 use Rattle.dm_peer.specs.Acts.{Moved, acts, input_of}
 use Rattle.dm_peer.specs.Steps.{EachEventIsOneStep, Follows, IsStep}
 use Rattle.dm_node.specs.Holding.{peer_at, is_held, holds, holds_it, holds_at, host_of, host_at, AreApart}
+use Rattle.dm_peer.specs.Holding.{names_conn}
 use Rattle.dm_node.specs.Telling.{conn_of, PeerIsTold}
 
-other_conn : (d c : Conn) → (Some d ≡ Some c → ⊥) → (d.0 == c.0) ≡ false
-other_conn d c un =
-    false_from_ne_true (d.0 == c.0) (λ e. un (ap (λ n. Some (record { 0 = n })) (eqb-true d.0 c.0 e)))
+numbered : (d c : Conn) → (d.0 == c.0) ≡ true → Some d ≡ Some c
+numbered d c e = ap (λ n. Some (record { 0 = n })) (eqb-true d.0 c.0 e)
+
+named : (e : PeerEvent) (c : Conn) → names_conn e c ≡ true → conn_of e ≡ Some c
+named (Start d) c is = numbered d c is
+named (Ack d) c is = numbered d c is
+named (Nack d) c is = numbered d c is
+named (Arrived d s) c is = numbered d c is
+named (Gone d) c is = numbered d c is
+named e c is = absurd (true≢false (sym is))
 
 named_if : (k : Concern) (b : Bool) → b ≡ false → names_it (if_named b k) ≡ false
 named_if k b e = rw e refl
 
-not_named : (e : PeerEvent) (h : Option Heard) (c : Conn) → (conn_of e ≡ Some c → ⊥) →
+not_named : (e : PeerEvent) (h : Option Heard) (c : Conn) → names_conn e c ≡ false →
     names_it (concern_of (input_of e h) c) ≡ false
-not_named (Start d) h c un = named_if _ (d.0 == c.0) (other_conn d c un)
-not_named (Ack d) h c un = named_if _ (d.0 == c.0) (other_conn d c un)
-not_named (Nack d) h c un = named_if _ (d.0 == c.0) (other_conn d c un)
-not_named (Arrived d s) h c un = named_if _ (d.0 == c.0) (other_conn d c un)
-not_named (Gone d) h c un = named_if _ (d.0 == c.0) (other_conn d c un)
+not_named (Start d) h c un = named_if _ (d.0 == c.0) un
+not_named (Ack d) h c un = named_if _ (d.0 == c.0) un
+not_named (Nack d) h c un = named_if _ (d.0 == c.0) un
+not_named (Arrived d s) h c un = named_if _ (d.0 == c.0) un
+not_named (Gone d) h c un = named_if _ (d.0 == c.0) un
 not_named e h c un = refl
 
 free : (h : Hold) → is_held h ≡ false → is_hold NotHeld h ≡ true
@@ -47,7 +55,7 @@ both a b p q = rw (p, q) refl
 
 at_step : LeavesOthersAlone → (p q : Peer) (e : PeerEvent) (actions : List Action) →
     IsTrue (is_shaped p.standing.core) →
-    IsStep p e actions q → (c : Conn) → (conn_of e ≡ Some c → ⊥) → holds c p ≡ false → holds c q ≡ false
+    IsStep p e actions q → (c : Conn) → names_conn e c ≡ false → holds c p ≡ false → holds c q ≡ false
 at_step alone p q e actions shaped s c free_of not_held =
     let at : AtConnection (λ k before after orders.
     IsTrue (is_hold NotHeld before && not (names_it k)) → (after ≡ NotHeld) × (orders ≡ []))
@@ -60,13 +68,21 @@ at_step alone p q e actions shaped s c free_of not_held =
 
 -- a peer holds of the connections that it didn't hold at most the one that its event names
 pub stays : EachEventIsOneStep → LeavesOthersAlone → (p q : Peer) (e : PeerEvent) (actions : List Action) →
-    IsTrue (is_shaped p.standing.core) → acts p e ≡ Moved actions q → (c : Conn) → (conn_of e ≡ Some c → ⊥) →
+    IsTrue (is_shaped p.standing.core) → acts p e ≡ Moved actions q → (c : Conn) → names_conn e c ≡ false →
     holds c p ≡ false → holds c q ≡ false
 stays step alone p q e actions shaped is c free_of not_held =
     elim (subst (Follows p e) is (step p e)) [
       | inl s ↦ at_step alone p q e actions shaped s c free_of not_held
       | inr d ↦ subst (λ x. holds c x ≡ false) (sym d.same) not_held
     ]
+
+-- so one that didn't hold it holds at most the connection on which it is told octets
+pub first_on : EachEventIsOneStep → LeavesOthersAlone → (p q : Peer) (c d : Conn) (octets : List ℕ)
+    (actions : List Action) → IsTrue (is_shaped p.standing.core) → acts p (Arrived c octets) ≡ Moved actions q →
+    holds d p ≡ false → holds d q ≡ true → (c.0 == d.0) ≡ true
+first_on step alone p q c d octets actions shaped is unheld held =
+    true_from_ne_false (c.0 == d.0) (λ other. two_truths (holds d q) held
+    (stays step alone p q (Arrived c octets) actions shaped is d other unheld))
 
 pub config_kept : EachEventIsOneStep → (p q : Peer) (e : PeerEvent) (actions : List Action) →
     acts p e ≡ Moved actions q → q.config ≡ p.config
@@ -84,7 +100,7 @@ else_before ps i j y c un h = subst (λ o. holds_it c o ≡ true) (set_else ps i
 -- what an event leaves: a peer of the same configuration, which holds of the connections that it didn't hold at most
 -- the one that is named
 pub record Leaves (e : PeerEvent) (x y : Peer) : Type 0 where
-  pub takes : (c : Conn) → (conn_of e ≡ Some c → ⊥) → holds c x ≡ false → holds c y ≡ false
+  pub takes : (c : Conn) → names_conn e c ≡ false → holds c x ≡ false → holds c y ≡ false
   pub config : y.config ≡ x.config
 
 pub leaves : EachEventIsOneStep → LeavesOthersAlone → (x y : Peer) (e : PeerEvent) →
@@ -101,7 +117,7 @@ cross : (ps : List (Option Peer)) (i k : ℕ) (e : PeerEvent) (x y : Peer) (c : 
     (k ≡ i → ⊥) → holds_at ps c k ≡ true → holds c y ≡ true → ⊥
 cross ps i k e x y c at left only apart un there now =
     two_truths (holds c y) now
-    (left.takes c (λ is. un (only k c is there))
+    (left.takes c (false_from_ne_true (names_conn e c) (λ is. un (only k c (named e c is) there)))
     (false_from_ne_true (holds c x) (λ was. un (apart.one k i c there (ap (holds_it c) at ∙ was)))))
 
 pub apart_after : (ps : List (Option Peer)) (i : ℕ) (e : PeerEvent) (x y : Peer) → peer_at ps i ≡ Some x →
@@ -164,10 +180,6 @@ told_set ps qs i e actions told =
     each_same qs rs (told.count ∙ sym (length-set ps i (Some told.after))) (λ j.
     told_cases (λ o. o ≡ peer_at rs j) ps qs i j e actions told (λ s. sym (ap (peer_at rs) s ∙ here))
     (λ un. sym (set_else ps i j (Some told.after) un)))
-
-pub if_ok : {A E : Type 0} {P Q : A → Type 0} (r : Result A E) → ((a : A) → P a → Q a) → IfOk r P → IfOk r Q
-if_ok (Ok a) f h = f a h
-if_ok (Err e) f h = tt
 
 pub if_err : {A E : Type 0} {P Q : E → Type 0} (r : Result A E) → ((e : E) → P e → Q e) → IfErr r P → IfErr r Q
 if_err (Ok a) f h = tt

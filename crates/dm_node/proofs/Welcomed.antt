@@ -1,6 +1,6 @@
 -- A host that is no neighbour becomes one, or is turned away.
-use Rattle.std.proofs.Common.{◌≡◌, ◌≤◌, ◌<◌, inl, inr, ◌⊎◌, ℕ, true, false, Option, None, Some, IfSome, IfNone, Result, Ok, Err, IfOk, OnOk, List, [], ◌∷◌, ◌++◌, length, refl, sym, ap, subst, ◌∙◌}
-use Rattle.std.proofs.lemmas.Bool.{false_from_ne_true}
+use Rattle.std.proofs.Common.{◌≡◌, ◌≤◌, ◌<◌, inl, inr, ◌⊎◌, ℕ, true, false, Option, None, Some, IfSome, IfNone, Result, Ok, Err, OnOk, List, [], ◌∷◌, ◌++◌, length, refl, sym, ap, subst, ◌∙◌}
+use Rattle.std.proofs.lemmas.Option.{IfSome_then}
 use Rattle.dm_base.specs.declared.node.Node.{Node}
 use Rattle.dm_history.specs.History.{new_peer}
 use Rattle.dm_machine.specs.declared.connection.Conn.{Conn}
@@ -13,9 +13,9 @@ use Rattle.dm_peer.specs.declared.fault.ConfigFault.{ConfigFault}
 use Rattle.dm_peer.specs.declared.peer.Peer.{Peer}
 use Rattle.dm_node.specs.Calling.{Caller, caller_of, answer_to}
 use Rattle.dm_node.specs.Holding.{peer_at, holds, holds_it, holds_at, AreApart}
-use Rattle.dm_node.specs.Policies.{Policy, IsMadeFor, IsUnfit, MakesFor, MakesNoneFor}
+use Rattle.dm_node.specs.Policies.{Policy, MakesFor, MakesNoneFor}
 use Rattle.dm_node.specs.Strangers.{present, IsPermitted, IsForbidden, Joins, StaysOut, NodeMoves, TellsConcerned, NodeIsTold}
-use Rattle.dm_node.specs.Telling.{Concerns, IsAddressed, IsFree, PeerIsTold, told_of}
+use Rattle.dm_node.specs.Telling.{Concerns, IsAddressed, PeerIsTold, told_of}
 use Rattle.dm_node.specs.declared.events.NodeEvent.{NodeEvent}
 use Rattle.dm_node.specs.declared.events.NodeEvent.TheVariants as event
 use Rattle.dm_node.proofs.Basics.{one_inside, two_truths}
@@ -41,14 +41,6 @@ is_taken ps qs i c octets actions k y here is stays acted =
       stays = stays;
     }
 
--- nobody holds a connection that is held behind the octets of an unknown host
-pub free_behind : (ps : List (Option Peer)) (c : Conn) (y : Peer) → IsFree ps c →
-    ((d : Conn) → (c ≡ d → ⊥) → holds d y ≡ false) →
-    (d : Conn) (j : ℕ) → holds d y ≡ true → holds_at ps d j ≡ false
-free_behind ps c y free takes d j held =
-    false_from_ne_true (holds_at ps d j) (λ q. two_truths (holds d y) held
-    (takes d (λ same. two_truths (holds_at ps d j) q (subst (λ x. holds_at ps x j ≡ false) same (free j)))))
-
 -- one more, of whose connections nobody holds any
 pub apart_admitted : (ps : List (Option Peer)) (y : Peer) →
     ((c : Conn) (j : ℕ) → holds c y ≡ true → holds_at ps c j ≡ false) → AreApart ps → AreApart (ps ++ Some y ∷ [])
@@ -60,10 +52,6 @@ apart_admitted ps y free apart = record {
       (λ h. grown_cases (λ o. holds_it c o ≡ true → i ≡ j) ps (Some y) j
       (λ also g. absurd (two_truths (holds_at ps c i) h (free c i g))) (apart.one i j c h));
 }
-
-pub if_some : {A : Type 0} {P Q : A → Type 0} (o : Option A) → ((a : A) → P a → Q a) → IfSome o P → IfSome o Q
-if_some None f h = h
-if_some (Some a) f h = f a h
 
 pub if_none : {A : Type 0} (P Q : Type 0) (o : Option A) → (P → Q) → IfNone o P → IfNone o Q
 if_none P Q None f h = f h
@@ -77,11 +65,6 @@ pub at_none : {A : Type 0} (P : Type 0) (o : Option A) → o ≡ None → IfNone
 at_none P o is h = subst (λ x. IfNone x P) is h
 
 -- what two clauses of a call say, together
-pub both_ok : {A E : Type 0} {P Q R : A → Type 0} (r : Result A E) → ((a : A) → P a → Q a → R a) → IfOk r P →
-    IfOk r Q → IfOk r R
-both_ok (Ok a) f h g = f a h g
-both_ok (Err e) f h g = tt
-
 pub both_done : {A E : Type 0} {P Q R : Type 0} (r : Result A E) → (P → Q → R) → OnOk r P → OnOk r Q → OnOk r R
 both_done (Ok a) f h g = f h g
 both_done (Err e) f h g = tt
@@ -93,18 +76,6 @@ fits_where_made None k r is refuses = refl
 fits_where_made (Some f) k r is refuses =
     let clash : ◌≡◌ {A = Result Config ConfigFault} (Ok k) (Err f) = sym is ∙ refuses f refl in absurd (cc)
 
--- by the host's template
-pub makes_for : (policy : Policy) (host : List ℕ) (template : Config) (o : Option Config) →
-    policy.template host ≡ Some template → IfSome o (IsMadeFor template host) → IfSome o (MakesFor policy host)
-makes_for policy host template o chosen h =
-    if_some o (λ k made. record { template = template; chosen = chosen; made = made }) h
-
-pub makes_none : (policy : Policy) (host : List ℕ) (template : Config) (o : Option Config) →
-    policy.template host ≡ Some template → IfNone o (IsUnfit template host) → IfNone o (MakesNoneFor policy host)
-makes_none policy host template o chosen h =
-    if_none (IsUnfit template host) (MakesNoneFor policy host) o
-    (subst (λ (t : Option Config). IfSome t (λ x. IsUnfit x host)) (sym chosen)) h
-
 -- what is made for who calls is permitted, wherever the octets concern nobody
 abbrev pub PermitsAnywhere : Policy → List (Option Peer) → List ℕ → Config → Type 0
 PermitsAnywhere policy ps octets k =
@@ -114,11 +85,11 @@ pub permits : (policy : Policy) (ps : List (Option Peer)) (octets : List ℕ) (c
     caller_of octets ≡ Some call → present ps < policy.most → IfSome o (MakesFor policy call.1) →
     IfSome o (PermitsAnywhere policy ps octets)
 permits policy ps octets call o calls room h =
-    if_some o (λ k makes c nobody. record {
+    IfSome_then o h (λ k makes c nobody. record {
       unknown = record { call = call; calls = calls; named = sym makes.made.peer; nobody = nobody };
       made = subst (λ x. MakesFor policy x k) (sym makes.made.peer) makes;
       room = room;
-    }) h
+    })
 
 -- and where none is made for it nobody is
 pub forbids : (policy : Policy) (ps : List (Option Peer)) (octets : List ℕ) (call : Caller) →

@@ -1,8 +1,8 @@
 //! Events that concern no neighbour: what is done at what a stranger sends.
 ghost use Rattle.std.specs.Prelude.{◌≡◌, ℕ, IfOk, IfErr, OnOk, OnErr, IsSome, All};
 ghost use Rattle.dm_node.specs.Calling.{caller_of, answer_to};
-ghost use Rattle.dm_node.specs.Strangers.{NodeMoves, NodeIsTold};
-ghost use Rattle.dm_node.specs.Telling.{Concerns, IsAddressed, IsStrangeCer};
+ghost use Rattle.dm_node.specs.Strangers.{NodeIsTold};
+ghost use Rattle.dm_node.specs.Telling.{Concerns, IsStrangeCer};
 ghost use Rattle.dm_node.specs.declared.fault.OrderFault.TheVariants as faults;
 ghost use Rattle.dm_peer.specs.Spelled.{SendsSpelling};
 ghost use Rattle.dm_peer.specs.declared.fault.PeerFault.TheVariants as peer_faults;
@@ -18,15 +18,6 @@ use dm_base::{Node, error_answer};
 use dm_dict::NoMemory;
 use dm_peer::{Action, Actions, Conn, PeerFault, sent_octets};
 use std::alloc::Global;
-
-/// What is done at an event that concerns no neighbour.
-#[derive(Drop)]
-pub(crate) struct StrangerActions {
-    /// The number of the neighbour that the stranger became, if it became one.
-    pub(crate) neighbour: Option<usize>,
-    /// What is to be done, in this order.
-    pub(crate) actions: Actions,
-}
 
 /// What turns a stranger away: an answer 3010 (DIAMETER_UNKNOWN_PEER) where the octets are a CER, and a Close. Only the
 /// answer may want memory.
@@ -49,35 +40,6 @@ fn refusing_actions(
     Ok(actions)
 }
 
-/// What is done at octets of a connection that concern no neighbour.
-fn admit_or_turn_away<S: Strangers>(
-    alloc: Global,
-    own: &Node,
-    neighbours: &mut Neighbours,
-    strangers: &S,
-    conn: Conn,
-    octets: &[u8],
-) -> Result<StrangerActions, OrderFault>
-    requires { (i : ℕ) → IsAddressed (S.policy strangers.now) neighbours.old conn octets.now i → ⊥ }
-    ensures moved { IfOk result (λ r. NodeMoves (S.policy strangers.now) conn octets.now own.now
-        neighbours.old r.neighbour r.actions.items neighbours.new) }
-    ensures spelled { IfOk result (λ r. All SendsSpelling r.actions.items) }
-    ensures memory { IfErr result (λ f. (f ≡ faults.Peer peer_faults.NoMemory) × IsSome (caller_of octets.now)) }
-    ensures unchanged { OnErr result (neighbours.new ≡ neighbours.old) }
-{
-    match offered_config(alloc, neighbours, strangers, octets) {
-        Ok(Some(config)) => tell_and_add_newcomer(alloc, neighbours, config, conn, octets),
-        Ok(None) => match refusing_actions(alloc, own, conn, octets) {
-            Ok(actions) => Ok(StrangerActions {
-                neighbour: None,
-                actions,
-            }),
-            Err(_) => Err(OrderFault::Peer(PeerFault::NoMemory)),
-        },
-        Err(_) => Err(OrderFault::Peer(PeerFault::NoMemory)),
-    }
-}
-
 /// What is done at an event that concerns no neighbour, put into `answer`: at what came on a connection, its sender is
 /// taken in or turned away; at all else nothing.
 #[inline(never)]
@@ -98,13 +60,19 @@ pub(crate) fn handle_stranger_event<S: Strangers>(
 {
     match event {
         NodeEvent::Arrived(conn, octets) => {
-            match admit_or_turn_away(alloc, own, neighbours, strangers, conn, octets) {
-                Ok(done) => {
-                    answer.neighbour = done.neighbour;
-                    answer.actions = done.actions;
-                    Ok(())
+            match offered_config(alloc, neighbours, strangers, octets) {
+                Ok(Some(config)) => {
+                    tell_and_add_newcomer(alloc, neighbours, config, conn, octets, answer)
                 }
-                Err(fault) => Err(fault),
+                Ok(None) => match refusing_actions(alloc, own, conn, octets) {
+                    Ok(actions) => {
+                        answer.neighbour = None;
+                        answer.actions = actions;
+                        Ok(())
+                    }
+                    Err(_) => Err(OrderFault::Peer(PeerFault::NoMemory)),
+                },
+                Err(_) => Err(OrderFault::Peer(PeerFault::NoMemory)),
             }
         }
         _ => {
