@@ -1,9 +1,10 @@
 -- Lines beside those of another kind.
 use Rattle.std.proofs.Common.{◌≡◌, ℕ, Bool, List, codes, arith}
 use Rattle.dm_live.specs.declared.form.Form.{Form}
+use Rattle.dm_live.specs.declared.order_line.OrderLine.{OrderLine}
 use Rattle.dm_live.specs.declared.order_name.OrderName.{OrderName}
 use Rattle.dm_live.specs.declared.setting_name.SettingName.{SettingName}
-use Rattle.dm_live.specs.OrderLines.{AskedOfNode, name_word, order_name, TellsOrder}
+use Rattle.dm_live.specs.OrderLines.{name_word, order_name, TellsOrder}
 use Rattle.dm_live.specs.SenderLines.{IsSender}
 use Rattle.dm_live.specs.Settings.{setting_word, specific_word}
 
@@ -15,6 +16,6 @@ no_setting = grind arith
 no_name : (name : OrderName) → name_word name ≡ codes "sender" → ⊥
 no_name = grind arith
 
-pub no_order : (form : Form) (n : ℕ) (line : List ℕ) (a : AskedOfNode) → IsSender form n line
-    → TellsOrder form a line → ⊥
-no_order form n line a (asked, is, named) (rest, tells, more) = no_name (order_name a.order) (cc (is, tells))
+pub no_order : (form : Form) (n : ℕ) (line : List ℕ) (o : OrderLine) → IsSender form n line
+    → TellsOrder form o line → ⊥
+no_order form n line o (asked, is, named) (rest, tells, more) = no_name (order_name o) (cc (is, tells))

@@ -18,7 +18,6 @@ use Rattle.dm_live.specs.AnswerLines.{action_lines, arrival_line, refusal_line, 
 use Rattle.dm_live.specs.declared.form.Form.{Form}
 use Rattle.dm_live.specs.declared.form.Form.TheVariants.{Alone, Several}
 use Rattle.dm_live.specs.Meetings.{Meeting}
-use Rattle.dm_live.specs.OrderLines.{Order, Accept, Reset, order_asked}
 use Rattle.dm_live.specs.declared.asked.Asked.{Asked}
 use Rattle.dm_live.specs.declared.asked.Asked.TheVariants as asked
 
@@ -29,9 +28,10 @@ policy_of Several = no_strangers
 
 -- the line of an order that tells no event, where it is one of those that tell one: its connection isn't there, or a
 -- Start's is there already
-unfoldable pub ignored_line : Order → List ℕ
-ignored_line (Accept c) = []
-ignored_line Reset = []
+unfoldable pub ignored_line : NodeOrder → List ℕ
+ignored_line (order.Accept c) = []
+ignored_line (order.Reset n) = []
+ignored_line order.ResetAll = []
 ignored_line o = codes "ignored" ++ 10 ∷ []
 
 -- the neighbour that an event concerned, in front of the event's lines, where there are several; a stranger's have no
@@ -56,7 +56,7 @@ turns_lines form turns = flat_map (turn_lines form) turns
 
 -- what an order asks for
 abbrev pub asked_lines : Form → NodeOrder → Option NodeAnswer → List ℕ
-asked_lines form o None = ignored_line (order_asked o).order
+asked_lines form o None = ignored_line o
 asked_lines form o (Some answer) = event_lines form answer
 
 -- whom it concerns: the one that was told the event, or that begins anew
@@ -65,9 +65,19 @@ whom_asked o (Some answer) = answer.neighbour
 whom_asked (order.Reset n) None = Some n
 whom_asked o None = None
 
+-- the neighbour that an order names
+abbrev pub neighbour_named : NodeOrder → Option ℕ
+neighbour_named (order.Start n c) = Some n
+neighbour_named (order.Timeout n) = Some n
+neighbour_named (order.Tick n) = Some n
+neighbour_named (order.Stop n cause) = Some n
+neighbour_named (order.Submit n octets) = Some n
+neighbour_named (order.Reset n) = Some n
+neighbour_named o = None
+
 -- the neighbour that refuses an order; where nobody has the number that it names, none does
 abbrev pub refuser : NodeOrder → OrderFault → Option ℕ
-refuser o (fault.Peer f) = (order_asked o).to
+refuser o (fault.Peer f) = neighbour_named o
 refuser o f = None
 
 -- why an order is refused

@@ -6,6 +6,7 @@ use Rattle.std.specs.Str.Lines.{lines}
 use Rattle.dm_text.specs.Words.{words}
 use Rattle.dm_live.specs.declared.asked.Asked.{Asked}
 use Rattle.dm_live.specs.declared.fault.LiveFault.{LiveFault}
+use Rattle.dm_live.specs.declared.order_line.OrderLine.{OrderLine}
 use Rattle.dm_live.specs.declared.fault.LiveFault.TheVariants.{Write}
 use Rattle.dm_node.specs.NodeKnown.{acquaintance_at}
 use Rattle.dm_live.specs.declared.form.Form.{Form}
@@ -78,7 +79,7 @@ AsksSender form line m n text =
 -- a line that tells neither changes nothing
 abbrev pub TellsNone : ℕ → Form → List ℕ → Meeting → Meeting → List ℕ → Type 0
 TellsNone number form line m n text =
-    ((i : ℕ) → IsSender form i line → ⊥) × ((o : Asked) → TellsOrder form (node_asked o) line → ⊥) × (n ≡ m)
+    ((i : ℕ) → IsSender form i line → ⊥) × ((o : OrderLine) → TellsOrder form o line → ⊥) × (n ≡ m)
     × (text ≡ bad_answer number)
 
 -- the line of this number before the node begins, if it doesn't begin it

@@ -9,7 +9,6 @@ ghost use Rattle.dm_node.specs.NodeSeen.{node_state_of};
 ghost use Rattle.dm_node.specs.Answers.{turn_in};
 ghost use Rattle.dm_live.specs.Answers.{ignored_line, neighbour_line, turn_lines, event_refusal_line};
 ghost use Rattle.dm_live.specs.Answers.{state_line, states_lines, states_behind, whom_asked};
-ghost use Rattle.dm_live.specs.OrderLines.{order_asked};
 ghost use Rattle.dm_live.specs.Served.{fault_answer};
 
 use crate::asked::Asked;
@@ -137,7 +136,7 @@ pub(crate) fn put_ignored_unless_accept_or_reset(
 ) -> Result<Option<usize>, AllocError>
     ensures who { IfOk result (λ who. who ≡ whom_asked order.entry None) }
     ensures text { OnOk result (string_bytes text.new
-        ≡ string_bytes text.old ++ ignored_line (order_asked order.entry).order) }
+        ≡ string_bytes text.old ++ ignored_line order.entry) }
 {
     match order {
         Order::Accept(_) | Order::ResetAll => Ok(None),

@@ -1,8 +1,8 @@
 //! The lines of orders, read.
 ghost use Rattle.std.specs.Prelude.{◌≡◌, ◌≢◌, IfOk, MatchOption};
 ghost use Rattle.dm_text.specs.Words.{words};
-ghost use Rattle.dm_live.specs.declared.asked.Asked.{Asked as OneAsked};
-ghost use Rattle.dm_live.specs.OrderLines.{node_asked, told_order, ReadsNamed, TellsOrder};
+ghost use Rattle.dm_live.specs.declared.order_line.OrderLine.{OrderLine as OneOrder};
+ghost use Rattle.dm_live.specs.OrderLines.{node_asked, ReadsNamed, TellsOrder};
 
 use crate::asked::Asked;
 use crate::form::Form;
@@ -36,7 +36,7 @@ pub enum OrderLine {
 impl OrderLine {
     /// What it asks of a node. It never answers want of memory.
     pub fn as_order_or_piece(&self) -> Asked<'_>
-        ensures { node_asked result ≡ told_order self.now }
+        ensures { node_asked result ≡ self.now }
     {
         match self {
             OrderLine::Start(index, conn) => Asked::Order(Order::Start(*index, *conn)),
@@ -64,9 +64,8 @@ pub fn read_order_line(
     form: Form,
     line: &[u8],
 ) -> Result<Option<OrderLine>, AllocError>
-    ensures { IfOk result (λ read. MatchOption read
-        ((o : OneAsked) → TellsOrder form (node_asked o) line.now → ⊥)
-        (λ o. TellsOrder form (told_order o) line.now)) }
+    ensures { IfOk result (λ read. MatchOption read ((o : OneOrder) → TellsOrder form o line.now → ⊥)
+        (λ o. TellsOrder form o line.now)) }
 {
     let mut left = Words::new(line);
     let Some(word) = left.next() else {

@@ -1,9 +1,8 @@
 use Rattle.std.proofs.Common.{ℕ, List, Option, MatchOption, IfNone, inl, inr, refl, subst, sym}
-use Rattle.dm_live.specs.declared.asked.Asked.{Asked}
 use Rattle.dm_live.specs.declared.form.Form.{Form}
 use Rattle.dm_live.specs.declared.order_line.OrderLine.{OrderLine}
 use Rattle.dm_live.specs.Meetings.{meeting_of}
-use Rattle.dm_live.specs.OrderLines.{AskedOfNode, node_asked, told_order, TellsOrder}
+use Rattle.dm_live.specs.OrderLines.{TellsOrder}
 use Rattle.dm_live.specs.SenderLines.{IsSender}
 use Rattle.dm_live.specs.Served.{bad_answer, AnswersOrder}
 use Rattle.dm_live.proofs.Stages.{answers, answers_with_dot}
@@ -12,13 +11,12 @@ use Rattle.dm_live.proofs.live.answer_line_by_running_node.Goals as goal
 -- what is read of a line
 abbrev Reads : Form → List ℕ → Option OrderLine → Type 0
 Reads form line read =
-    MatchOption read ((o : Asked) → TellsOrder form (node_asked o) line → ⊥)
-    (λ o. TellsOrder form (told_order o) line)
+    MatchOption read ((o : OrderLine) → TellsOrder form o line → ⊥) (λ o. TellsOrder form o line)
 
 pub returns-in_ok-answer_asked_without_dot-in-Some-2 : goal.returns-in_ok-answer_asked_without_dot-in-Some-2
 returns-in_ok-answer_asked_without_dot-in-Some-2 c =
     let answered = c.in_ok-answer_asked_without_dot-in-Some-2.ensures in
-    let Tells : AskedOfNode → Type 0 = λ v. TellsOrder c.args.form v c.args.line.now in
+    let Tells : OrderLine → Type 0 = λ v. TellsOrder c.args.form v c.args.line.now in
     let read = subst (Reads c.args.form c.args.line.now) c.in-Some-2.is c.in_ok-order.ensures in
     answers_with_dot _
     (AnswersOrder c.args.number c.args.form c.args.line.now (meeting_of c.args.node.now)
