@@ -1,5 +1,5 @@
 //! The lines of who the other side is.
-ghost use Rattle.std.specs.Prelude.{◌≡◌, ◌++◌, ℕ, List, IfSome, IfNone, IfOk, OnOk};
+ghost use Rattle.std.specs.Prelude.{◌≡◌, ◌++◌, ℕ, List, IfSome, IfNone, OnOk};
 ghost use Rattle.std.specs.Option.{option_copied};
 ghost use Rattle.std.specs.String.{string_bytes};
 ghost use Rattle.dm_wire.specs.declared.avp.Avp.{Avp};
@@ -11,10 +11,9 @@ ghost use Rattle.dm_live.specs.SenderLines.{told_lines, exchange_lines, sender_l
 use crate::form::Form;
 use crate::line_ends::{put_words_number_and_line_end, put_words_octets_and_line_end};
 use crate::order_words::only_neighbour_left;
-use dm_base::{IdList, SenderRef};
+use dm_base::SenderRef;
 use dm_slots::Acquaintance;
 use dm_text::Words;
-use dm_value::NoMemory;
 use std::alloc::{AllocError, Global};
 
 /// The number of the neighbour of which the line asks whom it met; None where it asks nothing such.
@@ -55,21 +54,6 @@ fn put_number_lines(text: &mut String, name: &str, numbers: &[u32]) -> Result<()
     Ok(())
 }
 
-/// Appends a line of the name and an id for each of these, where there was memory for them.
-fn put_id_lines(
-    text: &mut String,
-    name: &str,
-    ids: Result<IdList, NoMemory>,
-) -> Result<(), AllocError>
-    ensures { (l : List ℕ) → IfOk ids (λ ids. ids ≡ l)
-        → OnOk result (string_bytes text.new ≡ string_bytes text.old ++ number_lines name.now l) }
-{
-    match ids {
-        Ok(ids) => put_number_lines(text, name, ids.as_slice()),
-        Err(_) => Err(AllocError),
-    }
-}
-
 /// Appends what a CER or CEA says of its sender.
 fn put_sender(alloc: Global, text: &mut String, sender: SenderRef<'_>) -> Result<(), AllocError>
     ensures { (l : List Avp) → HasAvps sender.entry l
@@ -80,8 +64,10 @@ fn put_sender(alloc: Global, text: &mut String, sender: SenderRef<'_>) -> Result
     put_words_octets_and_line_end(text, "product ", sender.product())?;
     put_number_line_if_any(text, "vendor ", sender.vendor())?;
     put_number_line_if_any(text, "firmware ", sender.firmware())?;
-    put_id_lines(text, "application ", sender.applications(alloc))?;
-    put_id_lines(text, "supports ", sender.vendors(alloc))?;
+    let applications = sender.applications(alloc)?;
+    put_number_lines(text, "application ", applications.as_slice())?;
+    let vendors = sender.vendors(alloc)?;
+    put_number_lines(text, "supports ", vendors.as_slice())?;
     put_number_line_if_any(text, "origin-state ", sender.state_id())?;
     Ok(())
 }

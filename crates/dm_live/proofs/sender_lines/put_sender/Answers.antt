@@ -8,8 +8,12 @@ returns c =
     λ l tells.
     rw (
       c.in_ok-put_number_line_if_any-3.ensures,
-      c.in_ok-put_id_lines-2.ensures _ (c.vendors.ensures.ids l tells),
-      c.in_ok-put_id_lines.ensures _ (c.applications.ensures.ids l tells),
+      c.in_ok-put_number_lines-2.ensures,
+      c.in_ok-put_number_lines.ensures,
+      c.as_slice-2.ensures,
+      c.as_slice.ensures,
+      c.in_ok-vendors.ensures.ids l tells,
+      c.in_ok-applications.ensures.ids l tells,
       c.in_ok-put_number_line_if_any-2.ensures,
       c.in_ok-put_number_line_if_any.ensures,
       c.in_ok-put_words_octets_and_line_end-3.ensures,
