@@ -13,7 +13,7 @@ ghost use Rattle.dm_live.specs.Served.{fault_answer};
 
 use crate::asked::Asked;
 use crate::form::Form;
-use crate::line_ends::{put_words_number_and_line_end, put_words_octets_and_line_end};
+use crate::line_ends::{put_number_line, put_octets_line};
 use dm_machine::Conn;
 use dm_node::{Answer, Node, Order, OrderFault, Told};
 use dm_peer::{Action, Peer, PeerFault};
@@ -26,14 +26,14 @@ fn put_action_line(text: &mut String, action: &Action) -> Result<(), AllocError>
     ensures { OnOk result (string_bytes text.new ≡ string_bytes text.old ++ action_line action.now) }
 {
     match action {
-        Action::Connect(conn) => put_words_number_and_line_end(text, "connect ", conn.0),
+        Action::Connect(conn) => put_number_line(text, "connect ", conn.0),
         Action::Send(conn, octets) => {
             text.push_str("send ")?;
             put_decimal(text, conn.0)?;
-            put_words_octets_and_line_end(text, " ", octets.as_slice())
+            put_octets_line(text, " ", octets.as_slice())
         }
-        Action::Close(conn) => put_words_number_and_line_end(text, "close ", conn.0),
-        Action::Up(octets) => put_words_octets_and_line_end(text, "up ", octets.as_slice()),
+        Action::Close(conn) => put_number_line(text, "close ", conn.0),
+        Action::Up(octets) => put_octets_line(text, "up ", octets.as_slice()),
     }
 }
 
@@ -99,11 +99,7 @@ pub(crate) fn put_neighbour_line_if_any(
     ensures { OnOk result (string_bytes text.new ≡ string_bytes text.old ++ neighbour_line form index) }
 {
     match (form, index) {
-        (Form::Several, Some(index)) => put_words_number_and_line_end(
-            text,
-            "neighbour ",
-            index as u64,
-        ),
+        (Form::Several, Some(index)) => put_number_line(text, "neighbour ", index as u64),
         (Form::Several, None) => Ok(()),
         (Form::Alone, _) => Ok(()),
     }
@@ -122,7 +118,7 @@ pub(crate) fn put_turn(
 {
     put_neighbour_line_if_any(text, form, turn.neighbour)?;
     if let Told::Message = turn.told {
-        put_words_number_and_line_end(text, "arrived ", conn.0)?;
+        put_number_line(text, "arrived ", conn.0)?;
     }
     put_action_lines(text, turn.actions.as_slice())
 }

@@ -8,11 +8,7 @@ use dm_text::{put_decimal, put_hexadecimal};
 use std::alloc::AllocError;
 
 /// Appends words, a number, and the end of the line.
-pub(crate) fn put_words_number_and_line_end(
-    text: &mut String,
-    words: &str,
-    number: u64,
-) -> Result<(), AllocError>
+pub(crate) fn put_number_line(text: &mut String, words: &str, number: u64) -> Result<(), AllocError>
     ensures { OnOk result (string_bytes text.new ≡ string_bytes text.old ++ words.now ++ decimal number ++ 10 ∷ []) }
 {
     text.push_str(words)?;
@@ -22,7 +18,7 @@ pub(crate) fn put_words_number_and_line_end(
 
 /// Appends words, octets in hexadecimal, and the end of the line.
 #[tactic(auto, unfolding(crate::specs::SenderLines::octets_line))]
-pub(crate) fn put_words_octets_and_line_end(
+pub(crate) fn put_octets_line(
     text: &mut String,
     words: &str,
     octets: &[u8],

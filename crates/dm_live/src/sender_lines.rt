@@ -9,7 +9,7 @@ ghost use Rattle.dm_live.specs.SenderLines.{IsSender, number_lines, number_line_
 ghost use Rattle.dm_live.specs.SenderLines.{told_lines, exchange_lines, sender_lines, sender_answer};
 
 use crate::form::Form;
-use crate::line_ends::{put_words_number_and_line_end, put_words_octets_and_line_end};
+use crate::line_ends::{put_number_line, put_octets_line};
 use crate::order_words::only_neighbour_left;
 use dm_base::SenderRef;
 use dm_slots::Acquaintance;
@@ -38,7 +38,7 @@ fn put_number_line_if_any(
     ensures { OnOk result (string_bytes text.new ≡ string_bytes text.old ++ number_line_if_any name.now number) }
 {
     match number {
-        Some(number) => put_words_number_and_line_end(text, name, u64::from(number)),
+        Some(number) => put_number_line(text, name, u64::from(number)),
         None => Ok(()),
     }
 }
@@ -49,7 +49,7 @@ fn put_number_lines(text: &mut String, name: &str, numbers: &[u32]) -> Result<()
     ensures { OnOk result (string_bytes text.new ≡ string_bytes text.old ++ number_lines name.now numbers.now) }
 {
     for number in numbers {
-        put_words_number_and_line_end(text, name, u64::from(*number))?;
+        put_number_line(text, name, u64::from(*number))?;
     }
     Ok(())
 }
@@ -59,9 +59,9 @@ fn put_sender(alloc: Global, text: &mut String, sender: SenderRef<'_>) -> Result
     ensures { (l : List Avp) → HasAvps sender.entry l
         → OnOk result (string_bytes text.new ≡ string_bytes text.old ++ told_lines l) }
 {
-    put_words_octets_and_line_end(text, "host ", sender.host())?;
-    put_words_octets_and_line_end(text, "realm ", sender.realm())?;
-    put_words_octets_and_line_end(text, "product ", sender.product())?;
+    put_octets_line(text, "host ", sender.host())?;
+    put_octets_line(text, "realm ", sender.realm())?;
+    put_octets_line(text, "product ", sender.product())?;
     put_number_line_if_any(text, "vendor ", sender.vendor())?;
     put_number_line_if_any(text, "firmware ", sender.firmware())?;
     let applications = sender.applications(alloc)?;
