@@ -41,10 +41,6 @@ neighbour_line Alone who = []
 neighbour_line Several None = []
 neighbour_line Several (Some i) = codes "neighbour " ++ decimal i ++ 10 ∷ []
 
--- what an event asked for
-abbrev pub event_lines : Form → NodeAnswer → List ℕ
-event_lines form answer = neighbour_line form answer.neighbour ++ action_lines answer.actions
-
 -- a message that was told, or a fault
 abbrev pub turn_lines : Form → NodeTurn → List ℕ
 turn_lines form turn =
@@ -57,7 +53,7 @@ turns_lines form turns = flat_map (turn_lines form) turns
 -- what an order asks for
 abbrev pub asked_lines : Form → NodeOrder → Option NodeAnswer → List ℕ
 asked_lines form o None = ignored_line o
-asked_lines form o (Some answer) = event_lines form answer
+asked_lines form o (Some answer) = neighbour_line form answer.neighbour ++ action_lines answer.actions
 
 -- whom it concerns: the one that was told the event, or that begins anew
 abbrev pub whom_asked : NodeOrder → Option NodeAnswer → Option ℕ
@@ -101,14 +97,11 @@ RefusesSo form o m who n text =
 abbrev pub TakesOrder : Form → NodeOrder → Meeting → Option ℕ → Meeting → List ℕ → Type 0
 TakesOrder form o m who n text = TakesSo form o m who n text ⊎ RefusesSo form o m who n text
 
--- a piece is kept, it concerns nobody yet, and nothing is printed of that
-abbrev pub KeepsSo : Conn → List ℕ → Meeting → Option ℕ → Meeting → List ℕ → Type 0
-KeepsSo c piece m who n text =
-    (n.node ≡ node_fed c piece m.node) × (n.known ≡ m.known) × (who ≡ None) × (text ≡ [])
-
+-- or a piece is kept, it concerns nobody yet, and nothing is printed of that
 abbrev pub TakesAs : Form → Asked → Meeting → Option ℕ → Meeting → List ℕ → Type 0
 TakesAs form (asked.Order o) m who n text = TakesOrder form o m who n text
-TakesAs form (asked.Piece c piece) m who n text = KeepsSo c piece.now m who n text
+TakesAs form (asked.Piece c piece) m who n text =
+    (n.node ≡ node_fed c piece.now m.node) × (n.known ≡ m.known) × (who ≡ None) × (text ≡ [])
 
 -- one turn of connection c, and whom it met
 abbrev pub MeetsNext : Policy → Conn → Meeting → NodeTurn → Meeting → Type 0
@@ -147,20 +140,13 @@ abbrev pub states_lines : ℕ → List (Option Peer) → List ℕ
 states_lines i [] = []
 states_lines i (p ∷ ps) = state_line Several i p ++ states_lines (i + 1) ps
 
--- how the one of several stands that was concerned, if any was
-abbrev pub concerned_state_line : Option ℕ → List (Option Peer) → List ℕ
-concerned_state_line None ps = []
-concerned_state_line (Some i) ps = state_line Several i (peer_at ps i)
-
--- how several stand behind an order that concerned all, or the one that it concerned last
-abbrev pub several_states : Asked → Option ℕ → List (Option Peer) → List ℕ
-several_states (asked.Order order.ResetAll) who ps = states_lines 0 ps
-several_states o who ps = concerned_state_line who ps
-
--- behind each order a peer alone is told
+-- how a peer stands that is alone, behind each order; how several stand behind one that concerned all, or the one that
+-- was concerned last, if any was
 abbrev pub states_behind : Form → Asked → Option ℕ → List (Option Peer) → List ℕ
 states_behind Alone o who ps = state_line Alone 0 (peer_at ps 0)
-states_behind Several o who ps = several_states o who ps
+states_behind Several (asked.Order order.ResetAll) who ps = states_lines 0 ps
+states_behind Several o None ps = []
+states_behind Several o (Some i) ps = state_line Several i (peer_at ps i)
 
 -- what is asked, what it makes of a node and of whom each neighbour met, and its answer: what it comes to itself, what
 -- came on its connection, and how whom that concerned last stands then

@@ -34,19 +34,11 @@ config_fault_name config_faults.BadHost = codes "BadHost"
 config_fault_name config_faults.SameHost = codes "SameHost"
 config_fault_name config_faults.NoMemory = codes ""
 
--- why the settings make no node
-abbrev pub own_fault : Settings → Option NodeFault
-own_fault s = node_fault s.host s.realm s.addresses s.product s.auth s.acct
-
 -- the settings say more of the node than it must say
 abbrev pub has_extras : Settings → Bool
 has_extras s =
     not (nat_eq (length s.applications) 0)
     || (not (nat_eq (length s.vendors) 0) || (is_some s.firmware || is_some s.state_id))
-
--- that is too long
-abbrev pub extras_fault : Settings → Option (List ℕ)
-extras_fault s = if are_extras_long s.applications s.vendors then Some (codes "TooLong") else None
 
 -- the hosts of a node's peers: those of the lines; where none tells one, that of an empty name, which no host has
 abbrev pub hosts_told : List (List ℕ) → List (List ℕ)
@@ -75,15 +67,13 @@ peers_fault own before (host ∷ hosts) =
 
 -- why the settings make no node that says all they say: there is no node, or what it says beyond is too long
 abbrev pub node_told_fault : Settings → Option (List ℕ)
-node_told_fault s = option_or (option_map node_fault_name (own_fault s)) (extras_fault s)
+node_told_fault s =
+    option_or (option_map node_fault_name (node_fault s.host s.realm s.addresses s.product s.auth s.acct))
+    (if are_extras_long s.applications s.vendors then Some (codes "TooLong") else None)
 
 -- why they begin nothing: there is no such node, or it can't have one of these peers
 abbrev pub go_fault : Settings → Option (List ℕ)
 go_fault s = option_or (node_told_fault s) (peers_fault s.host [] (hosts_told s.peers))
-
--- they tell several peers
-abbrev pub is_several : Settings → Bool
-is_several s = nat_lt 1 (length s.peers)
 
 -- what a node says beyond what it must is what the settings say, and it says none where they say none
 abbrev pub AreExtrasOf : Settings → Option Extras → Type 0
@@ -144,4 +134,4 @@ pub record Begins (s : Settings) (m : Meeting) : Type 0 where
 
 -- they tell one peer alone, or several
 abbrev pub form_told : Settings → Form
-form_told s = cond (is_several s) Several Alone
+form_told s = cond (nat_lt 1 (length s.peers)) Several Alone

@@ -20,16 +20,13 @@ abbrev pub IsSender : Form → ℕ → List ℕ → Type 0
 IsSender form n line =
     (rest : List (List ℕ)) × (words line ≡ codes "sender" ∷ rest) × NamesNeighbour form n rest []
 
--- a name, the space behind it, and octets or a number
+-- a name, the space behind it, and octets
 unfoldable pub octets_line : List ℕ → List ℕ → List ℕ
 octets_line name octets = name ++ encode_lower octets ++ 10 ∷ []
 
-abbrev pub number_line : List ℕ → ℕ → List ℕ
-number_line name n = name ++ decimal n ++ 10 ∷ []
-
--- the name and each number
+-- a line of the name and the number for each number
 unfoldable pub number_lines : List ℕ → List ℕ → List ℕ
-number_lines name numbers = flat_map (number_line name) numbers
+number_lines name numbers = flat_map (λ n. name ++ decimal n ++ 10 ∷ []) numbers
 
 unfoldable pub number_line_if_any : List ℕ → Option ℕ → List ℕ
 number_line_if_any name n = number_lines name (option_to_list n)
