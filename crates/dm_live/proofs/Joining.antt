@@ -1,6 +1,6 @@
 -- The neighbours that a configuration tells, one by one.
 use Rattle.std.proofs.Common.{◌≡◌, ◌≢◌, ◌⊎◌, inl, inr, ℕ, zero, suc, Bool, true, false, ◌||◌, if◌then◌else◌, Option, None, Some}
-use Rattle.std.proofs.Common.{List, [], ◌∷◌, ◌++◌, codes, ap, ◌∙◌, sym, subst, refl, append_assoc, append-nil}
+use Rattle.std.proofs.Common.{List, [], ◌∷◌, ◌++◌, codes, ap, ◌∙◌, sym, subst, refl, append_assoc}
 use Rattle.std.specs.Prelude.{bytes_eq}
 use Rattle.std.specs.Option.{option_map, option_or}
 use Rattle.std.proofs.lemmas.Slice.Eq.{bytes_eq-Decides}
@@ -149,11 +149,6 @@ pub record Joining (s : Settings) (hosts : List (List ℕ)) (t : NodeState) : Ty
   pub begun : BeginsForHosts s before t
   pub fault : peers_fault s.host [] s.peers ≡ peers_fault s.host before hosts
 
-pub joining_none : (s : Settings) (hosts : List (List ℕ)) (t : NodeState) → hosts ≡ s.peers → BeginsForHosts s [] t
-    → Joining s hosts t
-joining_none s hosts t is begun =
-    record { before = []; whole = is; begun = begun; fault = ap (λ v. peers_fault s.host [] v) (sym is) }
-
 pub joining_more : (s : Settings) (first : List ℕ) (template : Config) (host : List ℕ) (hosts : List (List ℕ))
     (t u : NodeState) → IsConfiguredFor s first template → Joining s (host ∷ hosts) t → AddsLike template host t u
     → config_fault template.node.host host ≡ None → (IsKnown t.peers host → ⊥) → Joining s hosts u
@@ -174,11 +169,6 @@ joining_refused s first template host name hosts t made so refuses =
     let Refuses : List ℕ → Type 0 = λ v. RefusesHost v t.peers host name in
     let is = peer_refused s so.before t.peers s.host host name so.begun.peers (subst Refuses made.node.host refuses) in
     so.fault ∙ ap (λ v. option_or v (peers_fault s.host (so.before ++ host ∷ []) hosts)) is
-
-pub joined : (s : Settings) (t : NodeState) → Joining s [] t → BeginsForHosts s s.peers t
-joined s t so =
-    let Begun : List (List ℕ) → Type 0 = λ v. BeginsForHosts s v t in
-    subst Begun (sym (append-nil so.before) ∙ so.whole) so.begun
 
 -- one more who was met by nobody
 pub unmet_more : (known new : List (Option Acquaintance)) → AreUnmet known → new ≡ with_nobody known → AreUnmet new
