@@ -2,7 +2,7 @@
 ghost use Rattle.std.specs.Prelude.{◌≡◌, ◌≢◌, true, false, Some, None, IfOk, IfErr, OnOk};
 ghost use Rattle.dm_peer.specs.Hosts.{config_fault};
 ghost use Rattle.dm_live.specs.Beginnings.{node_told_fault, go_fault, first_told, form_told, has_extras};
-ghost use Rattle.dm_live.specs.Beginnings.{IsNodeOf, IsConfiguredFor, node_fault_name, config_fault_name};
+ghost use Rattle.dm_live.specs.Beginnings.{IsNodeOf, IsConfiguredFor, config_fault_name};
 ghost use Rattle.dm_live.specs.Drafts.{settings_of};
 ghost use Rattle.dm_live.specs.Settings.{Settings, no_settings, Sets, TellsSetting};
 
@@ -197,7 +197,9 @@ impl Draft {
         let acct = Vec::from_slice(alloc, self.acct.as_slice())?;
         let node = match Node::new(host, realm, addresses, self.vendor, product, auth, acct) {
             Ok(node) => node,
-            Err(fault) => return Ok(Err(node_fault_name(fault))),
+            Err(NodeFault::BadHost) => return Ok(Err("BadHost")),
+            Err(NodeFault::NoAddress) => return Ok(Err("NoAddress")),
+            Err(NodeFault::TooLong) => return Ok(Err("TooLong")),
         };
         if !self.says_extras() {
             return Ok(Ok(node));
@@ -209,17 +211,6 @@ impl Draft {
             Err(ExtrasFault::TooLong) => Ok(Err("TooLong")),
             Err(ExtrasFault::NoMemory) => Err(AllocError),
         }
-    }
-}
-
-/// The name of why there is no node.
-fn node_fault_name(fault: NodeFault) -> &'static str
-    ensures { result.now ≡ node_fault_name fault }
-{
-    match fault {
-        NodeFault::BadHost => "BadHost",
-        NodeFault::NoAddress => "NoAddress",
-        NodeFault::TooLong => "TooLong",
     }
 }
 
