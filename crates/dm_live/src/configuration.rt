@@ -1,7 +1,7 @@
 //! The configuration, line by line, and the node and the config that it makes, or the name of why it makes none.
 ghost use Rattle.std.specs.Prelude.{◌≡◌, ◌≢◌, true, false, Some, None, IfOk, IfErr, OnOk};
 ghost use Rattle.dm_peer.specs.Hosts.{config_fault};
-ghost use Rattle.dm_live.specs.Beginnings.{node_told_fault, go_fault, first_told, form_told, has_extras};
+ghost use Rattle.dm_live.specs.Beginnings.{node_told_fault, go_fault, first_told, form_told};
 ghost use Rattle.dm_live.specs.Beginnings.{IsNodeOf, IsConfiguredFor, config_fault_name};
 ghost use Rattle.dm_live.specs.Drafts.{settings_of};
 ghost use Rattle.dm_live.specs.Settings.{Settings, no_settings, Sets, TellsSetting};
@@ -172,16 +172,6 @@ impl Draft {
         }
     }
 
-    /// Whether the lines say more of the node than it must say.
-    fn says_extras(&self) -> bool
-        ensures { result ≡ has_extras (settings_of self.now) }
-    {
-        self.applications.len() != 0
-            || self.vendors.len() != 0
-            || self.firmware.is_some()
-            || self.state_id.is_some()
-    }
-
     /// The own node that the lines tell, with the extras that they say of it, if any, or the name of why there is none.
     fn own_node(&self, alloc: Global) -> Result<Result<Node, &'static str>, AllocError>
         ensures made { IfOk result (λ made. IfOk made (λ node. IsNodeOf (settings_of self.now) node)) }
@@ -201,7 +191,11 @@ impl Draft {
             Err(NodeFault::NoAddress) => return Ok(Err("NoAddress")),
             Err(NodeFault::TooLong) => return Ok(Err("TooLong")),
         };
-        if !self.says_extras() {
+        let says_extras = self.applications.len() != 0
+            || self.vendors.len() != 0
+            || self.firmware.is_some()
+            || self.state_id.is_some();
+        if !says_extras {
             return Ok(Ok(node));
         }
         let applications = Vec::from_slice(alloc, self.applications.as_slice())?;
