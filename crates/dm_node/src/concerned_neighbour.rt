@@ -1,5 +1,5 @@
 //! Which neighbour an event concerns.
-ghost use Rattle.std.specs.Prelude.{◌≡◌, ℕ, true, false, None, Some, Err, IsSome, IfOk, IfErr, IfSome, IfNone};
+ghost use Rattle.std.specs.Prelude.{◌≡◌, ℕ, true, false, Err, IsSome, IfOk, IfErr, IfSome, IfNone};
 ghost use Rattle.dm_node.specs.Holding.{peer_at, holds_at};
 ghost use Rattle.dm_node.specs.Owning.{AreOwned};
 ghost use Rattle.dm_slots.specs.Held.{owners_of};

@@ -41,8 +41,8 @@ use dm_peer::laws::{
 use dm_slots::Slots;
 use std::alloc::{AllocError, Global};
 
-/// The connection on which the neighbour of the number is open, where the event that concerns it is no octets: these may
-/// close another connection.
+/// The connection on which the neighbour of the number is open, where the event that concerns it is no octets: these
+/// may close another connection.
 #[inline(always)]
 fn open_connection_unless_arrival(
     neighbours: &Neighbours,

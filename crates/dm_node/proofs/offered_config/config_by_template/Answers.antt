@@ -1,8 +1,6 @@
 -- What the template's `for_host` makes, and why it makes none.
-use Rattle.std.proofs.Common.{Option, IfSome, sym, subst, ◌∙◌}
-use Rattle.dm_node.specs.Policies.{IsUnfit}
+use Rattle.std.proofs.Common.{sym, ◌∙◌}
 use Rattle.dm_peer.specs.Hosts.{config_fault}
-use Rattle.dm_peer.specs.declared.config.Config.{Config}
 use Rattle.dm_node.proofs.Welcomed.{fits_where_made}
 use Rattle.dm_node.proofs.offered_config.config_by_template.Goals as goal
 
